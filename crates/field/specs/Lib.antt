@@ -1,0 +1,5 @@
+pub mod Tests
+pub mod Domains
+pub mod Fields
+pub mod Judging
+pub mod Output

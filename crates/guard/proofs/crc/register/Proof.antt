@@ -1,0 +1,54 @@
+use Rattle.guard.proofs.Laws.{crc-more, crc-end}
+use mathlib.Core.Path.{_≡_, _∙_, ap, sym, refl}
+use native.Mathlib.Omega.{arith}
+use native.Mathlib.Numerals.{add-one}
+use borrow.Author.Needs.{needs}
+use Prim.Native.Nat.{ℕ, _≤_, _-_}
+use lib.ListN.{length, drop}
+use Rattle.guard.specs.Crc.{crc}
+use Rattle.guard.proofs.crc.register.Statement.{statement}
+use Rattle.guard.proofs.crc.register.Tie as tie
+use Rattle.guard.proofs.crc.register.Reads as reads
+use Rattle.guard.proofs.crc.register.Lts as lts
+use Rattle.guard.proofs.crc.enter.Reads as enter-reads
+
+abbrev Inv-loop : tie.InvT-loop
+Inv-loop start bytes r₀ i₀ r i = (i ≤ length bytes) × (crc r (drop i bytes) ≡ crc start bytes)
+
+abbrev μ-loop : tie.MeasureT-loop
+μ-loop start bytes r₀ i₀ r i = length bytes - i
+
+loop-holds : tie.Need-loop-holds Inv-loop μ-loop
+loop-holds c = (omega arith, refl)
+
+shared-slice-read-enter : tie.Need-shared-slice-read-enter Inv-loop μ-loop
+shared-slice-read-enter c = search needs
+
+enter-requires : tie.Need-enter-requires Inv-loop μ-loop
+enter-requires c κs = search needs
+
+add-i : tie.Need-add-i Inv-loop μ-loop
+add-i c = search needs
+
+loop-less : tie.Need-loop-less Inv-loop μ-loop
+loop-less c = search needs
+
+loop-again : tie.Need-loop-again Inv-loop μ-loop
+loop-again c = (omega arith, crc-more _ _ _ _ (c .before .before .loop-test .taken) (c .enter .ensures) ∙ c .before .before .before .loop .inv .1)
+
+returns : tie.Need-returns Inv-loop μ-loop
+returns c = sym (crc-end _ (c .before .before .before .args .bytes .now) _ (c .loop-test .left)) ∙ c .before .loop .inv .1
+
+pub register-spec : {M : Type 1} → statement M
+register-spec =
+    tie.close
+    (tie.spec
+    Inv-loop
+    μ-loop
+    loop-holds
+    shared-slice-read-enter
+    enter-requires
+    add-i
+    loop-less
+    loop-again
+    returns)

@@ -1,0 +1,26 @@
+use borrow.Author.Needs.{needs}
+use Rattle.guard.proofs.crc.times_x4.Statement.{statement}
+use Rattle.guard.proofs.crc.times_x4.Tie as tie
+use Rattle.guard.proofs.crc.times_x4.Reads as reads
+use Rattle.guard.proofs.crc.times_x4.Lts as lts
+use Rattle.guard.proofs.crc.times_x.Reads as times-x-reads
+
+times-x-requires : tie.Need-times-x-requires
+times-x-requires c κs = search needs
+
+times-x-requires-2 : tie.Need-times-x-requires-2
+times-x-requires-2 c κs = search needs
+
+times-x-requires-3 : tie.Need-times-x-requires-3
+times-x-requires-3 c κs = search needs
+
+times-x-requires-4 : tie.Need-times-x-requires-4
+times-x-requires-4 c κs = search needs
+
+returns : tie.Need-returns
+returns c = cc
+
+pub times-x4-spec : {M : Type 1} → statement M
+times-x4-spec =
+    tie.close
+    (tie.spec times-x-requires times-x-requires-2 times-x-requires-3 times-x-requires-4 returns)
