@@ -11,7 +11,7 @@ use lib.Dec.{eqb}
 use Rattle.guard.specs.declared.Running.{Running}
 use Rattle.guard.specs.Crc.{crc, crcByte}
 use Rattle.guard.specs.Checksum.{_⊕_, words, onesSum}
-use Rattle.guard.specs.Guards.{Bytes, guardOf, weighed, flip, stepped, advanced, finished}
+use Rattle.guard.specs.Guards.{Bytes, started, guardOf, weighed, flip, stepped, advanced, finished}
 use Rattle.guard.specs.Plain.{plain, Rounds}
 
 -- Advancing over xs and then ys is advancing over xs ++ ys.
@@ -167,17 +167,17 @@ word-by-bytes v high low h k l =
     rounds-once (rounds-add (high * 256 + low) (omega arith) (rounds-here v h))
     (rounds-of (omega arith) (rounds-add low (omega arith) (rounds-add (high * 256) (omega arith) (rounds-here v h))))
 
-words-by-bytes : (t v : ℕ) (xs : List ℕ) → v ≤ 65535 → Bytes xs → onesSum v (words xs) ≡ advanced (suc t) (record { value = v; odd = false }) xs .value
+words-by-bytes : (t v : ℕ) (xs : List ℕ) → v ≤ 65535 → Bytes xs → onesSum v (words xs) ≡ advanced (suc t) (started v) xs .value
 unfolding onesSum words advanced stepped
 words-by-bytes t v [] h b = refl
 words-by-bytes t v (x ∷ []) h b = refl
 words-by-bytes t v (x ∷ y ∷ xs) h b =
     words-by-bytes t (v ⊕ (x * 256 + y)) xs (sum-is-small v (x * 256 + y) h (omega (arith, b 0, b 1))) (λ i. b (suc (suc i)))
-    ∙ ap (λ (w : ℕ). advanced (suc t) (record { value = w; odd = false }) xs .value) (word-by-bytes v x y h (b 0) (b 1))
+    ∙ ap (λ (w : ℕ). advanced (suc t) (started w) xs .value) (word-by-bytes v x y h (b 0) (b 1))
 
 -- Finishing after a whole block is the guard of the block: one law over guard type, seed and block size.
 pub whole-block : (t seed : ℕ) (block : List ℕ) → seed ≤ 65535 → Bytes block
-    → finished t (advanced t (record { value = seed; odd = false }) block) ≡ guardOf t seed block
+    → finished t (advanced t (started seed) block) ≡ guardOf t seed block
 unfolding finished guardOf
-whole-block zero seed block h b = ap (λ (g : Running). g .value) (sym (advanced-crc (record { value = seed; odd = false }) block))
+whole-block zero seed block h b = ap (λ (g : Running). g .value) (sym (advanced-crc (started seed) block))
 whole-block (suc t) seed block h b = ap (λ (w : ℕ). 0xFFFF - w) (sym (words-by-bytes t seed block h b))

@@ -16,6 +16,10 @@ unfoldable pub guardOf : ℕ → ℕ → List ℕ → ℕ
 guardOf zero seed block = crc seed block
 guardOf (suc t) seed block = 0xFFFF - onesSum seed (words block)
 
+-- A running guard before the first byte.
+abbrev pub started : ℕ → Running
+started seed = record { value = seed; odd = false }
+
 -- A byte of a checksum counts 256 times at an even place of its block and once at an odd one.
 abbrev pub weighed : Bool → ℕ → ℕ
 weighed false b = b * 256

@@ -3,10 +3,9 @@ mod checksum;
 mod crc;
 
 ghost use mathlib.Core.Path.{_≡_};
-ghost use mathlib.Core.Bool.{false};
 ghost use Prim.Native.Nat.{_≤_, _^_};
 ghost use lib.ListN.{length};
-ghost use Rattle.guard.specs.Guards.{advanced, finished};
+ghost use Rattle.guard.specs.Guards.{started, advanced, finished};
 
 // 01's guard types. Configure lets no other number through; here each above 0 is a checksum.
 pub const CRC: u32 = 0;
@@ -19,7 +18,7 @@ pub struct Running {
 }
 
 pub fn start(seed: u16) -> Running
-    ensures { λ r. ⌜ (r .value ≡ seed) × (r .odd ≡ false) ⌝ }
+    ensures { λ r. ⌜ r ≡ started seed ⌝ }
 {
     Running {
         value: seed,

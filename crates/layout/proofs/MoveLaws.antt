@@ -1,0 +1,253 @@
+-- Laws on gathered and scattered bytes.
+use mathlib.Core.Path.{_≡_, refl, ap, sym, _∙_}
+use mathlib.Core.List.{List, [], _∷_, _++_, append-assoc}
+use Prim.Native.Nat.{ℕ, zero, suc, _+_, _*_, _-_, _<_, _≤_}
+use native.Mathlib.Nat.{sub-zero}
+use native.Mathlib.Numerals.{add-one}
+use native.Mathlib.Omega.{arith}
+use borrow.Rule.Slice.PartAt.{part-to-end}
+use borrow.Rule.Slice.PartMut.{putMid, post-is}
+use lib.ListN.{length, take-append-drop, take, drop, getD, set, length-append, length-take, length-drop, length-set, length-map}
+use lib.Seq.{take-at, take-suc, take-suc-set, length-take-le, drop-cons, drop-drop, take-add, take-all, getD-set-same, getD-set-other, getD-take, getD-drop, ext-getD, sets, sets-eq}
+use Rattle.layout.specs.declared.Layout.{Layout}
+use Rattle.layout.specs.declared.places.Spot.{Spot}
+use Rattle.layout.specs.declared.places.Position.{Position}
+use Rattle.layout.specs.Pieces.{Piece, inUse, size, span, from, placesOf, places}
+use Rattle.layout.specs.Moves.{gathered, scattered, spot, Distinct, Below}
+use Rattle.layout.specs.Steps.{byteAt, Cut}
+use Rattle.layout.proofs.PieceLaws.{run-places}
+
+-- ---- the copying loop
+
+-- one more byte is copied
+pub copy-more : (d s : List ℕ) (i : ℕ) → i < length d → i < length s → take i d ≡ take i s → take (i + 1) (set d i (getD s i 0)) ≡ take (i + 1) s
+copy-more d s i h h′ e =
+    rw (add-one, take-suc-set d i (getD s i 0) h, take-suc s i 0 h′) (ap (λ (l : List ℕ). l ++ (getD s i 0 ∷ [])) e)
+
+-- all are copied
+pub copy-all : (d s : List ℕ) (i : ℕ) → length d ≤ i → length s ≤ i → take i d ≡ take i s → d ≡ s
+copy-all d s i h h′ e = sym (take-all i d h) ∙ e ∙ take-all i s h′
+
+-- ---- gathered
+
+-- a byte for each place
+pub length-gathered : (m ps : List ℕ) → length (gathered m ps) ≡ length ps
+unfolding gathered
+length-gathered m ps = length-map ps (λ (p : ℕ). getD m p 0)
+
+-- reading at ps ++ qs is reading at ps, then at qs
+pub gathered-append : (m ps qs : List ℕ) → gathered m (ps ++ qs) ≡ gathered m ps ++ gathered m qs
+unfolding gathered
+gathered-append m [] qs = refl
+gathered-append m (p ∷ ps) qs = ap (λ (l : List ℕ). getD m p 0 ∷ l) (gathered-append m ps qs)
+
+-- byte i is that of place i
+pub gathered-at : (m ps : List ℕ) (i : ℕ) → i < length ps → getD (gathered m ps) i 0 ≡ getD m (getD ps i 0) 0
+unfolding gathered
+gathered-at m [] i h = absurd (omega arith)
+gathered-at m (p ∷ ps) zero h = refl
+gathered-at m (p ∷ ps) (suc i) h = gathered-at m ps i (omega arith)
+
+-- places in a row hold a part of memory
+pub gathered-from : (m : List ℕ) (a n : ℕ) → a + n ≤ length m → gathered m (from a n) ≡ take n (drop a m)
+unfolding gathered from
+gathered-from m a zero h = refl
+gathered-from m a (suc n) h =
+    rw (drop-cons m a 0 (omega arith)) (ap (λ (l : List ℕ). getD m a 0 ∷ l) (gathered-from m (suc a) n (omega arith)))
+
+-- the run at layout byte x, and its first k bytes, are a part of memory
+pub gathered-run :
+    (m : List ℕ) (ps : List Piece) (x k : ℕ) (s : Spot)
+    → s ≡ spot ps x
+    → x < size ps
+    → k ≤ s .left
+    → s .place .0 + k ≤ length m
+    → gathered m (take k (drop x (placesOf ps))) ≡ take k (drop (s .place .0) m)
+gathered-run m ps x k s e h hk w = ap (λ (l : List ℕ). gathered m l) (run-places ps x k s e h hk) ∙ gathered-from m (s .place .0) k w
+
+-- ---- scattered
+
+-- a store changes bytes, and not how many there are
+pub length-scattered : (m ps bs : List ℕ) → length (scattered m ps bs) ≡ length m
+unfolding scattered
+length-scattered m [] bs = refl
+length-scattered m (p ∷ ps) [] = refl
+length-scattered m (p ∷ ps) (b ∷ bs) = length-scattered (set m p b) ps bs ∙ length-set m p b
+
+pub scattered-none : (m ps : List ℕ) → scattered m ps [] ≡ m
+unfolding scattered
+scattered-none m [] = refl
+scattered-none m (p ∷ ps) = refl
+
+-- storing xs ++ ys is storing xs, then ys behind them
+pub scattered-append :
+    (m ps xs ys : List ℕ) → scattered m ps (xs ++ ys) ≡ scattered (scattered m ps xs) (drop (length xs) ps) ys
+unfolding scattered
+scattered-append m [] [] ys = refl
+scattered-append m [] (x ∷ xs) ys = refl
+scattered-append m (p ∷ ps) [] ys = refl
+scattered-append m (p ∷ ps) (x ∷ xs) ys = scattered-append (set m p x) ps xs ys
+
+-- only the places of the bytes stored matter
+pub scattered-take : (m ps bs : List ℕ) (n : ℕ) → length bs ≤ n → scattered m (take n ps) bs ≡ scattered m ps bs
+unfolding scattered
+scattered-take m [] bs zero h = refl
+scattered-take m [] bs (suc n) h = refl
+scattered-take m (p ∷ ps) [] zero h = refl
+scattered-take m (p ∷ ps) [] (suc n) h = refl
+scattered-take m (p ∷ ps) (b ∷ bs) zero h = absurd (omega arith)
+scattered-take m (p ∷ ps) (b ∷ bs) (suc n) h = scattered-take (set m p b) ps bs n (omega arith)
+
+-- stores at places in a row
+pub scattered-from : (m bs : List ℕ) (a n : ℕ) → length bs ≤ n → scattered m (from a n) bs ≡ sets m a bs
+unfolding scattered from
+scattered-from m [] a zero h = refl
+scattered-from m [] a (suc n) h = refl
+scattered-from m (b ∷ bs) a zero h = absurd (omega arith)
+scattered-from m (b ∷ bs) a (suc n) h = scattered-from (set m a b) bs (suc a) n (omega arith)
+
+-- k bytes that lie one after the other stored at once: they replace a part of memory, and the rest is stored behind them
+pub scattered-run :
+    (m ps bs : List ℕ) (x a k : ℕ)
+    → take k (drop x ps) ≡ from a k
+    → k ≤ length bs
+    → a + k ≤ length m
+    → scattered m (drop x ps) bs ≡ scattered (take a m ++ (take k bs ++ drop (a + k) m)) (drop (x + k) ps) (drop k bs)
+scattered-run m ps bs x a k e hb w =
+    let len : length (take k bs) ≡ k = length-take-le k bs hb in
+    let first : scattered m (drop x ps) (take k bs) ≡ take a m ++ (take k bs ++ drop (a + k) m) =
+    sym (scattered-take m (drop x ps) (take k bs) k (omega arith))
+    ∙ ap (λ (l : List ℕ). scattered m l (take k bs)) e
+    ∙ scattered-from m (take k bs) a k (omega arith)
+    ∙ sets-eq (take k bs) m a (omega arith)
+    ∙ ap (λ (n : ℕ). take a m ++ take k bs ++ drop (a + n) m) len
+    ∙ append-assoc (take a m) (take k bs) (drop (a + k) m) in
+    ap (λ (l : List ℕ). scattered m (drop x ps) l) (sym (take-append-drop k bs))
+    ∙ scattered-append m (drop x ps) (take k bs) (drop k bs)
+    ∙ ap (λ (n : ℕ). scattered (scattered m (drop x ps) (take k bs)) (drop n (drop x ps)) (drop k bs)) len
+    ∙ ap (λ (l : List ℕ). scattered l (drop k (drop x ps)) (drop k bs)) first
+    ∙ ap (λ (l : List ℕ). scattered (take a m ++ (take k bs ++ drop (a + k) m)) l (drop k bs)) (drop-drop k x ps)
+
+-- a place that none of the bytes goes to keeps its byte
+pub scattered-other :
+    (m ps bs : List ℕ) (p : ℕ)
+    → ((i : ℕ) → i < length bs → i < length ps → getD ps i 0 ≡ p → ⊥)
+    → getD (scattered m ps bs) p 0 ≡ getD m p 0
+unfolding scattered
+scattered-other m [] bs p o = refl
+scattered-other m (q ∷ ps) [] p o = refl
+scattered-other m (q ∷ ps) (b ∷ bs) p o =
+    scattered-other (set m q b) ps bs p (λ i h h′ e. o (suc i) (omega arith) (omega arith) e)
+    ∙ getD-set-other m q p b 0 (λ e. o 0 (omega arith) (omega arith) (sym e))
+
+-- each place holds its byte, where no two places are the same
+pub scattered-at :
+    (m ps bs : List ℕ) (i : ℕ)
+    → Distinct ps
+    → Below (length m) ps
+    → i < length bs
+    → i < length ps
+    → getD (scattered m ps bs) (getD ps i 0) 0 ≡ getD bs i 0
+unfolding scattered
+scattered-at m [] bs i d w h h′ = absurd (omega arith)
+scattered-at m (p ∷ ps) [] i d w h h′ = absurd (omega arith)
+scattered-at m (p ∷ ps) (b ∷ bs) zero d w h h′ =
+    scattered-other (set m p b) ps bs p (λ j g g′ e. let z : suc j ≡ 0 = d (suc j) 0 (omega arith) (omega arith) e in omega arith)
+    ∙ getD-set-same m p b 0 (w 0 (omega arith))
+scattered-at m (p ∷ ps) (b ∷ bs) (suc i) d w h h′ =
+    scattered-at (set m p b) ps bs i
+    (λ j k g g′ e. let z : suc j ≡ suc k = d (suc j) (suc k) (omega arith) (omega arith) e in omega arith)
+    (λ j g. omega (arith, w (suc j) (omega arith), length-set m p b)) (omega arith) (omega arith)
+
+-- what was stored is read back
+pub gathered-scattered :
+    (m ps bs : List ℕ) → Distinct ps → Below (length m) ps → length bs ≤ length ps → gathered (scattered m ps bs) (take (length bs) ps) ≡ bs
+gathered-scattered m ps bs d w h =
+    let len : length (take (length bs) ps) ≡ length bs = length-take-le (length bs) ps h in
+    let all : length (gathered (scattered m ps bs) (take (length bs) ps)) ≡ length bs = length-gathered (scattered m ps bs) (take (length bs) ps) ∙ len in
+    ext-getD 0 (gathered (scattered m ps bs) (take (length bs) ps)) bs all
+    (λ i g. gathered-at (scattered m ps bs) (take (length bs) ps) i (omega arith)
+    ∙ ap (λ (p : ℕ). getD (scattered m ps bs) p 0) (getD-take (length bs) ps i 0 (omega arith))
+    ∙ scattered-at m ps bs i d w (omega arith) (omega arith))
+
+-- ---- parts of a list of places
+
+-- what is left out makes no two places the same, and none greater
+pub distinct-drop : (x : ℕ) (ps : List ℕ) → Distinct ps → Distinct (drop x ps)
+distinct-drop x ps d i j h h′ e =
+    let z : x + i ≡ x + j =
+    d (x + i) (x + j) (omega (arith, length-drop x ps)) (omega (arith, length-drop x ps)) (sym (getD-drop x ps i 0) ∙ e ∙ getD-drop x ps j 0) in
+    omega arith
+
+pub distinct-take : (n : ℕ) (ps : List ℕ) → Distinct ps → Distinct (take n ps)
+distinct-take n ps d i j h h′ e =
+    let len = length-take n ps in
+    d i j (omega arith) (omega arith) (sym (getD-take n ps i 0 (omega arith)) ∙ e ∙ getD-take n ps j 0 (omega arith))
+
+pub below-drop : (n x : ℕ) (ps : List ℕ) → Below n ps → Below n (drop x ps)
+below-drop n x ps w i h = omega (arith, w (x + i) (omega (arith, length-drop x ps)), getD-drop x ps i 0)
+
+pub below-take : (n k : ℕ) (ps : List ℕ) → Below n ps → Below n (take k ps)
+below-take n k ps w i h =
+    let len = length-take k ps in
+    omega (arith, w i (omega arith), getD-take k ps i 0 (omega arith))
+
+-- ---- a turn of each loop, from what its calls ensure, in the lists that the code leaves
+
+-- a position moved ahead stands so many layout bytes further on
+pub moved : (l : Layout) (p q : Position) (s k : ℕ) → s ≡ span (inUse l) → q .repeat * s + q .byte ≡ p .repeat * s + p .byte + k → byteAt l q ≡ byteAt l p + k
+moved l p q s k e h = rw e at h
+
+-- what is left of the bytes behind the first k
+pub rest-length : (bs : List ℕ) (k : ℕ) → length (take (length bs - k) (drop k bs)) ≡ length bs - k
+rest-length bs k = rw part-to-end (length-drop k bs)
+
+-- a turn of scatter: its first bytes were copied to the run
+pub scatter-turn :
+    (l : Layout) (p q : Position) (m bs ys : List ℕ) (r : Spot)
+    → Cut l p (length bs) r
+    → r .place .0 + r .left ≤ length m
+    → byteAt l q ≡ byteAt l p + r .left
+    → ys ≡ take (r .left - 0) bs
+    → scattered (putMid (r .place .0) (r .place .0 + r .left - r .place .0) m ys) (drop (byteAt l q) (places l)) (take (length bs - r .left) (drop (r .left) bs))
+    ≡ scattered m (drop (byteAt l p) (places l)) bs
+scatter-turn l p q m bs ys r c w e f =
+    rw (post-is (r .place .0) (r .place .0 + r .left) m (omega arith), part-to-end bs (r .left), e, f, sub-zero)
+    (sym (scattered-run m (places l) bs (byteAt l p) (r .place .0) (r .left) (c .run) (c .most) w))
+
+-- a turn of gather: the run was copied behind the bytes so far
+pub gather-turn :
+    (l : Layout) (p p₀ : Position) (m out ys : List ℕ) (d wanted : ℕ) (r : Spot)
+    → Cut l p wanted r
+    → r .place .0 + r .left ≤ length m
+    → d + r .left ≤ length out
+    → byteAt l p ≡ byteAt l p₀ + d
+    → ys ≡ take (r .place .0 + r .left - r .place .0) (drop (r .place .0) m)
+    → take d out ≡ gathered m (take d (drop (byteAt l p₀) (places l)))
+    → take (d + r .left) (putMid d (d + r .left - d) out ys) ≡ gathered m (take (d + r .left) (drop (byteAt l p₀) (places l)))
+gather-turn l p p₀ m out ys d wanted r c w h e f g =
+    let k = r .left in
+    let a = r .place .0 in
+    let x = byteAt l p₀ in
+    let n : a + k - a ≡ k = omega arith in
+    let more : ys ≡ gathered m (take k (drop d (drop x (places l)))) =
+    f ∙ ap (λ (i : ℕ). take i (drop a m)) n ∙ sym (gathered-from m a k w) ∙ ap (λ (l : List ℕ). gathered m l) (sym (c .run))
+    ∙ ap (λ (i : ℕ). gathered m (take k (drop i (places l)))) e ∙ ap (λ (z : List ℕ). gathered m (take k z)) (sym (drop-drop d x (places l))) in
+    let len : length (take d out ++ ys) ≡ d + k =
+    length-append (take d out) ys ∙ rw (f, n) (simp (length-take, length-drop) (omega arith)) in
+    ap (λ (z : List ℕ). take (d + k) z) (sym (append-assoc (take d out) ys (drop (d + k - d) (drop d out))))
+    ∙ take-at (take d out ++ ys) (drop (d + k - d) (drop d out)) (d + k) len
+    ∙ ap (λ (z : List ℕ). z ++ ys) g
+    ∙ ap (λ (z : List ℕ). gathered m (take d (drop x (places l))) ++ z) more
+    ∙ sym (gathered-append m (take d (drop x (places l))) (take k (drop d (drop x (places l)))))
+    ∙ ap (λ (z : List ℕ). gathered m z) (sym (take-add d k (drop x (places l))))
+
+-- where no byte is asked for
+pub gathered-none : (m ps out : List ℕ) → length out ≡ 0 → out ≡ gathered m (take (length out) ps)
+unfolding gathered
+gathered-none m ps [] h = refl
+gathered-none m ps (b ∷ out) h = absurd (omega arith)
+
+pub stored-none : (m ps bs : List ℕ) → length bs ≡ 0 → m ≡ scattered m ps bs
+stored-none m ps [] h = sym (scattered-none m ps)
+stored-none m ps (b ∷ bs) h = absurd (omega arith)

@@ -1,0 +1,4 @@
+pub mod Pieces
+pub mod Moves
+pub mod Answers
+pub mod Steps

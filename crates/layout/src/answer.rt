@@ -1,0 +1,156 @@
+// Answers 5, 6 and 7.
+ghost use mathlib.Core.Path.{_≡_};
+ghost use Prim.Native.Nat.{_*_, _<_, _≤_, _-_, _^_, min, max};
+ghost use lib.Dec.{ltb};
+ghost use Rattle.layout.specs.Pieces.{end, inUse, piece, pieces};
+ghost use Rattle.layout.specs.Moves.{Within};
+ghost use Rattle.layout.specs.Answers as answers;
+ghost use Rattle.layout.specs.Steps.{Shaped, Spans};
+use crate::Entry;
+use crate::Layout;
+use crate::numbers::greater;
+use crate::numbers::lesser;
+use crate::places::begin;
+
+// What is wrong with a layout, in 01's order, or nothing.
+pub enum Verdict {
+    Sound,
+    // 5
+    Malformed,
+    // 6
+    Outside,
+    // 7
+    Overlapping,
+}
+
+// A piece as the memory bytes from start on and before end.
+struct Extent {
+    start: u64,
+    end: u64,
+}
+
+fn some_empty(l: Layout) -> bool
+    requires { ⌜ l .used ≤ 16 ⌝ }
+    ensures { λ r. ⌜ r ≡ answers.someCountZero (inUse l) ⌝ }
+{
+    let used = l.used as usize;
+    let mut i: usize = 0;
+    while i < used {
+        let e = l.entries[i];
+        if e.count == 0 {
+            return true;
+        }
+        i += 1;
+    }
+    false
+}
+
+fn malformed(l: Layout) -> bool
+    ensures { λ r. ⌜ r ≡ answers.malformed l ⌝ }
+{
+    if l.used == 0 {
+        return true;
+    }
+    if 16 < l.used {
+        return true;
+    }
+    if l.repeat == 0 {
+        return true;
+    }
+    if some_empty(l) {
+        return true;
+    }
+    1024 < l.used as u64 * l.repeat as u64
+}
+
+// Whether repeat r of an entry ends beyond the memory. The start is tested before anything is added to it.
+fn beyond(e: Entry, r: u64, memory_length: u64) -> bool
+    requires { ⌜ r < 1024 ⌝ }
+    ensures { λ b. ⌜ b ≡ ltb «memory_length» (end (piece r e)) ⌝ }
+{
+    let start = e.start.0;
+    if memory_length < start {
+        return true;
+    }
+    let count = e.count as u64;
+    memory_length - start < r * (count + e.skip as u64) + count
+}
+
+// Of each entry the last repeat ends last, so it alone is tested.
+fn outside(l: Layout, memory_length: u64) -> bool
+    requires { ⌜ Shaped l ⌝ }
+    ensures { λ r. ⌜ r ≡ answers.someBeyond «memory_length» (pieces l) ⌝ }
+{
+    let used = l.used as usize;
+    let last = l.repeat as u64 - 1;
+    let mut i: usize = 0;
+    while i < used {
+        let e = l.entries[i];
+        if beyond(e, last, memory_length) {
+            return true;
+        }
+        i += 1;
+    }
+    false
+}
+
+// Piece number k is entry k % used of repeat k / used.
+fn extent_of(l: Layout, k: u64) -> Extent
+    requires { ⌜ (Shaped l) × (Within (2 ^ 64 - 1) (pieces l)) × (k < l .used * l .repeat) ⌝ }
+    ensures { λ r. ⌜ Spans l k r ⌝ }
+{
+    let used = l.used as u64;
+    let r = k / used;
+    let i = (k % used) as usize;
+    let e = l.entries[i];
+    let start = begin(e, r);
+    Extent {
+        start,
+        end: start + e.count as u64,
+    }
+}
+
+// Pieces that only touch share no byte.
+fn meet(p: Extent, q: Extent) -> bool
+    ensures { λ r. ⌜ r ≡ ltb (max (p .start) (q .start)) (min (p .end) (q .end)) ⌝ }
+{
+    greater(p.start, q.start) < lesser(p.end, q.end)
+}
+
+fn overlapping(l: Layout) -> bool
+    requires { ⌜ (Shaped l) × (Within (2 ^ 64 - 1) (pieces l)) ⌝ }
+    ensures { λ r. ⌜ r ≡ answers.someShare (pieces l) ⌝ }
+{
+    let n = l.used as u64 * l.repeat as u64;
+    let mut met = false;
+    let mut k: u64 = 0;
+    'search: while k < n {
+        let p = extent_of(l, k);
+        let mut j: u64 = k + 1;
+        while j < n {
+            if meet(p, extent_of(l, j)) {
+                met = true;
+                break 'search;
+            }
+            j += 1;
+        }
+        k += 1;
+    }
+    met
+}
+
+// The answer that 01's table gives for this layout over a memory of so many bytes.
+pub fn judge(l: Layout, memory_length: u64) -> Verdict
+    ensures { λ r. ⌜ r ≡ answers.verdictOn l «memory_length» ⌝ }
+{
+    if malformed(l) {
+        return Verdict::Malformed;
+    }
+    if outside(l, memory_length) {
+        return Verdict::Outside;
+    }
+    if overlapping(l) {
+        return Verdict::Overlapping;
+    }
+    Verdict::Sound
+}

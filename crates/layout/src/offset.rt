@@ -1,0 +1,46 @@
+// Offsets in the layout and offsets in memory are different kinds of number (01): their fields are private, so that no
+// other crate takes one for the other, and only the walk turns a layout offset into a memory offset.
+ghost use mathlib.Core.Path.{_≡_};
+ghost use Prim.Native.Nat.{_+_, _<_, _^_};
+
+// A place in the layout's bytes, counted from the layout's first byte.
+pub struct LayoutOffset(pub(crate) u64);
+
+// A place in the lent memory.
+pub struct MemoryOffset(pub(crate) u64);
+
+impl LayoutOffset {
+    pub fn new(n: u64) -> Self
+        ensures { λ r. ⌜ r .0 ≡ n ⌝ }
+    {
+        LayoutOffset(n)
+    }
+
+    pub fn number(self) -> u64
+        ensures { λ r. ⌜ r ≡ self .0 ⌝ }
+    {
+        self.0
+    }
+
+    // The place n bytes further on.
+    pub fn ahead(self, n: u64) -> Self
+        requires { ⌜ self .0 + n < 2 ^ 64 ⌝ }
+        ensures { λ r. ⌜ r .0 ≡ self .0 + n ⌝ }
+    {
+        LayoutOffset(self.0 + n)
+    }
+}
+
+impl MemoryOffset {
+    pub fn new(n: u64) -> Self
+        ensures { λ r. ⌜ r .0 ≡ n ⌝ }
+    {
+        MemoryOffset(n)
+    }
+
+    pub fn number(self) -> u64
+        ensures { λ r. ⌜ r ≡ self .0 ⌝ }
+    {
+        self.0
+    }
+}
