@@ -2,3 +2,4 @@
 pub mod PieceLaws
 pub mod MoveLaws
 pub mod AnswerLaws
+pub mod CountLaws

@@ -1,0 +1,166 @@
+-- Where the engine stands before the first byte and after one more has arrived. Assumes nothing.
+use mathlib.Core.Path.{_≡_, refl, sym, ap, _∙_}
+use mathlib.Core.Bool.{Bool, true, false}
+use mathlib.Core.List.{List, [], _∷_, _++_, append-assoc, append-nil}
+use Prim.Native.Nat.{ℕ, zero, suc, _+_, _-_, _*_, _≤_, _<_}
+use native.Mathlib.Nat.{zero-mul}
+use native.Mathlib.Numerals.{add-one}
+use native.Mathlib.Omega.{arith}
+use lib.Dec.{eqb, ltb}
+use lib.ListN.{length, take, drop, set, length-append, length-take, length-drop, length-set, drop-of-length-le}
+use lib.Seq.{take-all, take-nil, drop-nil, take-append-le, drop-append-le, take-suc-set}
+use borrow.Author.Tests.{ltb-true, ltb-false}
+use Rattle.guard.specs.declared.Running.{Running}
+use Rattle.guard.specs.Guards.{started, stepped, advanced}
+use Rattle.guard.proofs.Laws.{advanced-append}
+use Rattle.field.specs.declared.Domain.{Domain}
+use Rattle.field.specs.Tests.{pick}
+use Rattle.field.specs.Domains.{signed}
+use Rattle.field.specs.Fields.{fieldOf}
+use Rattle.key.specs.declared.Slot.{Slot}
+use Rattle.key.specs.declared.Slot.the-variants.{Empty, Holding}
+use Rattle.key.specs.Keys.{keep}
+use Rattle.engine.specs.declared.Rule.{Rule}
+use Rattle.engine.specs.declared.Progress.{Progress}
+use Rattle.engine.specs.Streams.{fieldSize, inBlock, inUnit}
+use Rattle.engine.specs.Transfers.{joined, firstError}
+use Rattle.engine.specs.Feeding.{checksGuard, makesGuard, sideAfter, arrived, shown, begun}
+use Rattle.engine.specs.Standing.{Matched, running, unitOut, Reached}
+use Rattle.engine.proofs.Units.{keep-empty}
+
+pick-same : {A : Type 0} (b : Bool) (a : A) → pick b a a ≡ a
+pick-same true a = refl
+pick-same false a = refl
+
+pub running-none : (d : Domain) (works : Bool) → _≡_ {A = Running} (started (d .seed)) (running d works [])
+unfolding advanced
+running-none d works = sym (pick-same works (started (d .seed)))
+
+running-more : (d : Domain) (works : Bool) (xs : List ℕ) (b : ℕ)
+    → pick works (stepped (d .«guard_type») (running d works xs) b) (running d works xs) ≡ running d works (xs ++ (b ∷ []))
+unfolding advanced
+running-more d true xs b = sym (advanced-append (d .«guard_type») (started (d .seed)) xs (b ∷ []))
+running-more d false xs b = refl
+
+pub field-small : (d : Domain) → fieldSize d ≤ 8
+unfolding fieldSize
+field-small d = small (signed d)
+  where
+    small : (b : Bool) → pick b 8 0 ≤ 8
+    small true = omega arith
+    small false = omega arith
+
+module _ (r : Rule) (slot : Slot) where
+  pub reached-begun : Reached r slot [] (begun r slot) []
+  unfolding joined firstError fieldOf
+  reached-begun = record {
+    past = [];
+    left = [];
+    split = refl;
+    behind = sym (zero-mul (inUnit r));
+    under = refl;
+    within = omega arith;
+    index = refl;
+    at = rw (take-nil {A = ℕ} (inBlock r));
+    inGuard = rw (take-nil {A = ℕ} (inBlock r)) (running-none (r .input) (checksGuard r));
+    outGuard = rw (take-nil {A = ℕ} (inBlock r)) (running-none (r .output) (makesGuard r));
+    eight = refl;
+    held = rw (drop-nil {A = ℕ} (inBlock r));
+    bare = λ e. refl;
+    error = sym (keep-empty slot);
+    shown = rw (take-nil {A = ℕ} (inBlock r));
+  }
+
+  module _ (xs : List ℕ) (p : Progress) (out : List ℕ) (b : ℕ) (R : Reached r slot xs p out) (h : p .input .at < inUnit r) where
+    split′ : xs ++ (b ∷ []) ≡ R .past ++ (R .left ++ (b ∷ []))
+    split′ = ap (λ (l : List ℕ). l ++ (b ∷ [])) (R .split) ∙ append-assoc (R .past) (R .left) (b ∷ [])
+
+    under′ : length (R .left ++ (b ∷ [])) ≡ p .input .at + 1
+    under′ = length-append (R .left) (b ∷ []) ∙ ap (λ (n : ℕ). n + 1) (R .under)
+
+    -- as data
+    module _ (l : p .input .at < inBlock r) where
+      all : take (inBlock r) (R .left) ≡ R .left
+      all = take-all (inBlock r) (R .left) (omega (arith, R .under))
+
+      all′ : take (inBlock r) (R .left ++ (b ∷ [])) ≡ R .left ++ (b ∷ [])
+      all′ = take-all (inBlock r) (R .left ++ (b ∷ [])) (omega (arith, under′))
+
+      none′ : drop (inBlock r) (R .left ++ (b ∷ [])) ≡ []
+      none′ = let short : length (R .left ++ (b ∷ [])) ≤ inBlock r = omega (arith, under′) in drop-of-length-le (R .left ++ (b ∷ [])) short
+
+      arrived-data : Reached r slot (xs ++ (b ∷ []))
+          (record {
+            input = sideAfter (r .input) (checksGuard r) (p .input) b;
+            output = sideAfter (r .output) (makesGuard r) (p .output) b;
+            held = p .held;
+            slot = p .slot;
+          }) (out ++ (b ∷ []))
+      arrived-data = record {
+        past = R .past;
+        left = R .left ++ (b ∷ []);
+        split = split′;
+        behind = R .behind;
+        under = under′;
+        within = omega arith;
+        index = R .index;
+        at = rw all′ (omega (arith, R .at, ap length all, under′, R .under));
+        inGuard = rw (all′, R .inGuard, all) (running-more (r .input) (checksGuard r) (R .left) b);
+        outGuard = rw (all′, R .outGuard, all) (running-more (r .output) (makesGuard r) (R .left) b);
+        eight = R .eight;
+        held = rw none′;
+        bare = R .bare;
+        error = R .error;
+        shown = rw (all′, R .shown, all) (append-assoc (joined _++_ [] (unitOut r (R .past)) 0 (p .input .index)) (R .left) (b ∷ []));
+      }
+
+    -- as a byte of the field
+    module _ (l : inBlock r ≤ p .input .at) where
+      front : take (inBlock r) (R .left ++ (b ∷ [])) ≡ take (inBlock r) (R .left)
+      front = take-append-le (inBlock r) (R .left) (b ∷ []) (omega (arith, R .under))
+
+      back : drop (inBlock r) (R .left ++ (b ∷ [])) ≡ drop (inBlock r) (R .left) ++ (b ∷ [])
+      back = drop-append-le (inBlock r) (R .left) (b ∷ []) (omega (arith, R .under))
+
+      before : length (drop (inBlock r) (R .left)) ≡ p .input .at - inBlock r
+      before = length-drop (inBlock r) (R .left) ∙ ap (λ (n : ℕ). n - inBlock r) (R .under)
+
+      held′ : take (length (drop (inBlock r) (R .left) ++ (b ∷ []))) (set (p .held) (p .input .at - inBlock r) b) ≡ drop (inBlock r) (R .left) ++ (b ∷ [])
+      held′ =
+          rw (length-append (drop (inBlock r) (R .left)) (b ∷ []), before, add-one (p .input .at - inBlock r))
+          (take-suc-set (p .held) (p .input .at - inBlock r) b (omega (arith, R .eight, field-small (r .input)))
+          ∙ ap (λ (t : List ℕ). t ++ (b ∷ [])) (rw before at (R .held)))
+
+      arrived-field : Reached r slot (xs ++ (b ∷ []))
+          (record {
+            input = record { index = p .input .index; at = p .input .at + 1; guard = p .input .guard };
+            output = p .output;
+            held = set (p .held) (p .input .at - inBlock r) b;
+            slot = p .slot;
+          }) (out ++ [])
+      unfolding fieldSize
+      arrived-field = record {
+        past = R .past;
+        left = R .left ++ (b ∷ []);
+        split = split′;
+        behind = R .behind;
+        under = under′;
+        within = omega arith;
+        index = R .index;
+        at = rw front (R .at);
+        inGuard = rw front (R .inGuard);
+        outGuard = rw front (R .outGuard);
+        eight = length-set (p .held) (p .input .at - inBlock r) b ∙ R .eight;
+        held = rw back held′;
+        bare = λ e. absurd (omega (arith, ap {B = ℕ} (λ (s : Bool). pick s 8 0) e));
+        error = R .error;
+        shown = rw (front, append-nil out) (R .shown);
+      }
+
+    pub reached-arrived : Reached r slot (xs ++ (b ∷ [])) (arrived r p b) (out ++ shown r p b)
+    unfolding arrived
+    reached-arrived = go (ltb (p .input .at) (inBlock r)) refl
+      where
+        go : (t : Bool) → ltb (p .input .at) (inBlock r) ≡ t → Reached r slot (xs ++ (b ∷ [])) (arrived r p b) (out ++ shown r p b)
+        go true e = rw e (arrived-data (ltb-true _ _ e))
+        go false e = rw e (arrived-field (ltb-false _ _ e))

@@ -1,0 +1,108 @@
+-- Where neither side is signed, each byte is a unit, and bytes go as they come. Assumes nothing.
+use mathlib.Core.Path.{_≡_, refl, sym, ap, _∙_}
+use mathlib.Core.Bool.{Bool, true, false}
+use mathlib.Core.List.{List, [], _∷_, _++_}
+use Prim.Native.Nat.{ℕ, zero, suc, _+_, _-_, _*_, _^_, _≤_, _<_}
+use native.Mathlib.Omega.{arith}
+use lib.Dec.{eqb, ltb}
+use lib.ListN.{length, take, drop, length-append}
+use borrow.Author.Tests.{lt-ltb, eq-eqb}
+use Rattle.field.specs.Tests.{pick}
+use Rattle.field.specs.Domains.{signed}
+use Rattle.key.specs.declared.Slot.{Slot}
+use Rattle.key.specs.Keys.{keep}
+use Rattle.layout.specs.declared.Layout.{Layout}
+use Rattle.layout.specs.Pieces.{places, total}
+use Rattle.layout.specs.Moves.{scattered}
+use Rattle.layout.proofs.MoveLaws.{scattered-none}
+use Rattle.engine.specs.declared.Rule.{Rule}
+use Rattle.engine.specs.declared.Progress.{Progress}
+use Rattle.engine.specs.Streams.{blockSize, fieldSize, inBlock, inUnit, outUnit}
+use Rattle.engine.specs.Transfers.{errorBy}
+use Rattle.engine.specs.Feeding.{sideAt, arrived, whole, errorDue, fieldDue, settled, placed, shown, fed, emitted}
+use Rattle.engine.specs.Parts.{written, InStep, Room, Fed, Bare, Countable}
+use Rattle.engine.proofs.Units.{keep-empty}
+use Rattle.engine.proofs.PartLaws.{countable}
+
+-- the progress n bytes further on
+abbrev moved : Rule → Progress → ℕ → Progress
+moved r p n = record { input = sideAt (r .input) (p .input .index + n); output = sideAt (r .output) (p .output .index + n); held = p .held; slot = p .slot }
+
+module _ (r : Rule) (b : Bare r) where
+  one-block : inBlock r ≡ 1
+  unfolding blockSize
+  one-block = rw (b .input, b .output)
+
+  one-unit : inUnit r ≡ 1
+  unfolding fieldSize
+  one-unit = rw (one-block, b .input)
+
+  no-error : (p : Progress) → keep (p .slot) (errorDue r p) ≡ p .slot
+  unfolding errorDue errorBy
+  no-error p = rw (b .input) (keep-empty (p .slot))
+
+  module _ (p : Progress) (h : p .input .at ≡ 0) (x : ℕ) where
+    is-data : ltb (p .input .at) (inBlock r) ≡ true
+    is-data = lt-ltb (p .input .at) (inBlock r) (omega (arith, one-block))
+
+    is-whole : whole r (arrived r p x) ≡ true
+    unfolding arrived
+    is-whole = rw is-data (eq-eqb (p .input .at + 1) (inUnit r) (omega (arith, one-unit)))
+
+    kept : (arrived r p x .input .index ≡ p .input .index) × (arrived r p x .output .index ≡ p .output .index) × (arrived r p x .held ≡ p .held) × (arrived r p x .slot ≡ p .slot)
+    unfolding arrived
+    kept = rw is-data (refl, refl, refl, refl)
+
+    one-byte : settled r (arrived r p x) ≡ moved r p 1
+    unfolding settled
+    one-byte =
+        rw is-whole
+        (λ i. record {
+          input = sideAt (r .input) (kept .0 i + 1);
+          output = sideAt (r .output) (kept .1 i + 1);
+          held = kept .2 i;
+          slot = (no-error (arrived r p x) ∙ kept .3) i;
+        })
+
+    one-shown : shown r p x ++ placed r (arrived r p x) ≡ x ∷ []
+    one-shown = rw (is-data, is-whole, b .output)
+
+  -- Fed bytes go as they come.
+  pub bare-fed : (p : Progress) → p .input .at ≡ 0 → (x : ℕ) (xs : List ℕ) → fed r p (x ∷ xs) ≡ moved r p (suc (length xs))
+  unfolding fed
+  bare-fed p h x [] = one-byte p h x
+  bare-fed p h x (y ∷ ys) =
+      let e : p .input .index + 1 + suc (length ys) ≡ p .input .index + suc (suc (length ys)) = omega arith in
+      let f : p .output .index + 1 + suc (length ys) ≡ p .output .index + suc (suc (length ys)) = omega arith in
+      rw (one-byte p h x) (bare-fed (moved r p 1) refl y ys ∙ rw (e, f))
+
+  pub bare-emitted : (p : Progress) → p .input .at ≡ 0 → (xs : List ℕ) → emitted r p xs ≡ xs
+  unfolding emitted
+  bare-emitted p h [] = refl
+  bare-emitted p h (x ∷ xs) = rw (one-shown p h x, one-byte p h x, bare-emitted (moved r p 1) refl xs)
+
+  module _ (p : Progress) (l : Layout) (x : ℕ) (before bytes : List ℕ) (s : InStep r p) (k : p .input .at < inUnit r) where
+    at-start : p .input .at ≡ 0
+    at-start = omega (arith, one-unit)
+
+    -- room for the bytes, and for counting them
+    pub bare-room : (m : ℕ) → Room r p l m x (length (emitted r p bytes)) → (x + written r p + length bytes ≤ total l) × Countable r p × (length bytes ≤ 2 ^ 40)
+    bare-room m R =
+        let e = ap length (bare-emitted p at-start bytes) in
+        (omega (arith, R .fits), countable r p s (omega (arith, R .fits, R .small)), omega (arith, R .fits, R .small))
+
+    pub bare-none : length bytes ≡ 0 → Fed r p l x before bytes p before
+    unfolding fed emitted
+    bare-none e = go bytes e
+      where
+        go : (ys : List ℕ) → length ys ≡ 0 → Fed r p l x before ys p before
+        go [] z = record { progress = refl; memory = sym (scattered-none before (drop (x + written r p) (places l))) }
+        go (y ∷ ys) z = absurd (omega arith)
+
+    pub bare-done : (length bytes ≡ 0 → ⊥) → (after : List ℕ) → after ≡ scattered before (drop (x + written r p) (places l)) bytes
+        → Fed r p l x before bytes (moved r p (length bytes)) after
+    bare-done n after e = record { progress = go bytes n; memory = rw (bare-emitted p at-start bytes) e }
+      where
+        go : (ys : List ℕ) → (length ys ≡ 0 → ⊥) → moved r p (length ys) ≡ fed r p ys
+        go [] z = absurd (z refl)
+        go (y ∷ ys) z = sym (bare-fed p at-start y ys)

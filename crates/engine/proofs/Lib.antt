@@ -1,0 +1,9 @@
+pub mod Windows
+pub mod Joined
+pub mod Units
+pub mod Arriving
+pub mod Settling
+pub mod Feeding
+pub mod PartLaws
+pub mod FeedLaws
+pub mod BareLaws

@@ -1,0 +1,218 @@
+-- A part at once is its bytes one by one. Assumes nothing.
+use mathlib.Core.Path.{_≡_, refl, sym, ap, _∙_}
+use mathlib.Core.Bool.{Bool, true, false}
+use mathlib.Core.List.{List, [], _∷_, _++_, append-assoc, append-nil}
+use Prim.Native.Nat.{ℕ, zero, suc, _+_, _-_, _*_, _^_, _≤_, _<_, min}
+use native.Mathlib.Nat.{suc-mul, add-zero, mul-le-mul, mul-le-mul-left}
+use native.Mathlib.Numerals.{add-one}
+use native.Mathlib.Omega.{arith}
+use lib.Dec.{eqb, ltb}
+use lib.ListN.{length, getD, take, drop, set, length-append, length-set, drop-of-length-le}
+use lib.Seq.{sets, drop-cons, drop-drop, length-sets}
+use borrow.Author.Tests.{lt-ltb, le-ltb, eq-eqb, ne-eqb, eqb-true, eqb-false}
+use Rattle.guard.specs.declared.Running.{Running}
+use Rattle.guard.specs.Guards.{stepped, advanced}
+use Rattle.field.specs.declared.Domain.{Domain}
+use Rattle.field.specs.Tests.{pick}
+use Rattle.field.specs.Domains.{signed}
+use Rattle.field.specs.Fields.{bytesOf}
+use Rattle.layout.specs.Moves.{scattered}
+use Rattle.layout.specs.declared.Layout.{Layout}
+use Rattle.layout.specs.Pieces.{places}
+use Rattle.layout.proofs.MoveLaws.{scattered-append, scattered-none}
+use Rattle.engine.specs.declared.Rule.{Rule}
+use Rattle.engine.specs.declared.Side.{Side}
+use Rattle.engine.specs.declared.Progress.{Progress}
+use Rattle.engine.specs.Streams.{fieldSize, inBlock, inUnit, outBlock, outUnit}
+use Rattle.engine.specs.Feeding.{checksGuard, makesGuard, sideAfter, arrived, whole, fieldMade, fieldDue, nextUnit, settled, placed, shown, fed, emitted}
+use Rattle.engine.specs.Standing.{Matched}
+use Rattle.engine.specs.Parts.{sideTaken, dataTaken, fieldTaken, written, InStep, Countable, Room, Settled}
+use Rattle.engine.proofs.Arriving.{field-small}
+
+guard-more : (t : ℕ) (works : Bool) (g : Running) (b : ℕ) (xs : List ℕ)
+    → pick works (advanced t (pick works (stepped t g b) g) xs) (pick works (stepped t g b) g) ≡ pick works (advanced t g (b ∷ xs)) g
+unfolding advanced
+guard-more t true g b xs = refl
+guard-more t false g b xs = refl
+
+side-more : (d : Domain) (works : Bool) (s : Side) (b : ℕ) (xs : List ℕ) → sideTaken d works (sideAfter d works s b) xs ≡ sideTaken d works s (b ∷ xs)
+side-more d works s b xs =
+    let e : s .at + 1 + length xs ≡ s .at + suc (length xs) = omega arith in
+    λ i. record { index = s .index; at = e i; guard = guard-more (d .«guard_type») works (s .guard) b xs i }
+
+data-more : (r : Rule) (p : Progress) (b : ℕ) (xs : List ℕ) → dataTaken r (dataTaken r p (b ∷ [])) xs ≡ dataTaken r p (b ∷ xs)
+unfolding advanced
+data-more r p b xs = λ i. record {
+  input = side-more (r .input) (checksGuard r) (p .input) b xs i;
+  output = side-more (r .output) (makesGuard r) (p .output) b xs i;
+  held = p .held;
+  slot = p .slot;
+}
+
+-- a unit that isn't whole stays
+module _ (r : Rule) (p : Progress) (h : p .input .at < inUnit r) where
+  unfinished : whole r p ≡ false
+  unfinished = ne-eqb (p .input .at) (inUnit r) (λ e. omega arith)
+
+  stays : settled r p ≡ p
+  unfolding settled
+  stays = rw unfinished
+
+  shows-none : placed r p ≡ []
+  shows-none = rw unfinished
+
+fed-go : (r : Rule) (p : Progress) (b : ℕ) (ys : List ℕ) (q : Progress) → arrived r p b ≡ q → q .input .at < inUnit r
+    → (fed r p (b ∷ ys) ≡ fed r q ys) × (emitted r p (b ∷ ys) ≡ shown r p b ++ emitted r q ys)
+unfolding fed emitted
+fed-go r p b ys q e h = (rw (e, stays r q h), rw (e, shows-none r q h, stays r q h, append-nil (shown r p b)))
+
+-- A part of bytes that are all taken alike: `take` is what becomes of the progress, `show` what is placed, `C p n` that n bytes more go so.
+module _ (r : Rule) (take : Progress → List ℕ → Progress) (show : List ℕ → List ℕ) (C : Progress → ℕ → Type 0)
+    (one : (p : Progress) (b n : ℕ) → C p (suc n) → (arrived r p b ≡ take p (b ∷ [])) × (shown r p b ≡ show (b ∷ [])))
+    (more : (p : Progress) (b : ℕ) (xs : List ℕ) (n : ℕ) → C p (suc n) → take (take p (b ∷ [])) xs ≡ take p (b ∷ xs))
+    (joins : (b : ℕ) (xs : List ℕ) → show (b ∷ []) ++ show xs ≡ show (b ∷ xs))
+    (next : (p : Progress) (b n : ℕ) → C p (suc n) → C (take p (b ∷ [])) n)
+    (inside : (p : Progress) (n : ℕ) → C p (suc n) → p .input .at < inUnit r) where
+  alike : (p : Progress) (b : ℕ) (xs : List ℕ) → C p (suc (length xs))
+      → (fed r p (b ∷ xs) ≡ settled r (take p (b ∷ xs))) × (emitted r p (b ∷ xs) ≡ show (b ∷ xs) ++ placed r (take p (b ∷ xs)))
+  unfolding fed emitted
+  alike p b [] h =
+      (ap (settled r) (one p b 0 h .0), append-nil (shown r p b ++ placed r (arrived r p b)) ∙ rw (one p b 0 h .0, one p b 0 h .1))
+  alike p b (x ∷ xs) h =
+      let q = take p (b ∷ []) in
+      let n = next p b (suc (length xs)) h in
+      let go = fed-go r p b (x ∷ xs) q (one p b (suc (length xs)) h .0) (inside q (length xs) n) in
+      let rest = alike q x xs n in
+      let all = more p b (x ∷ xs) (suc (length xs)) h in
+      ( go .0 ∙ rest .0 ∙ ap (settled r) all
+      , go .1 ∙ rw (rest .1, one p b (suc (length xs)) h .1, ← joins b (x ∷ xs), ← all) (sym (append-assoc (show (b ∷ [])) (show (x ∷ xs)) (placed r (take q (x ∷ xs)))))
+      )
+
+module _ (r : Rule) where
+  as-data : (p : Progress) (b : ℕ) → p .input .at < inBlock r → arrived r p b ≡ dataTaken r p (b ∷ [])
+  unfolding arrived advanced
+  as-data p b h = rw (lt-ltb (p .input .at) (inBlock r) h)
+
+  as-field : (p : Progress) (b : ℕ) → inBlock r ≤ p .input .at → arrived r p b ≡ fieldTaken r p (b ∷ [])
+  unfolding arrived
+  as-field p b h = rw (le-ltb (p .input .at) (inBlock r) h)
+
+  field-more : (p : Progress) (b : ℕ) (xs : List ℕ) → inBlock r ≤ p .input .at → fieldTaken r (fieldTaken r p (b ∷ [])) xs ≡ fieldTaken r p (b ∷ xs)
+  field-more p b xs h =
+      let e : p .input .at + 1 + length xs ≡ p .input .at + suc (length xs) = omega arith in
+      let k : p .input .at + 1 - inBlock r ≡ suc (p .input .at - inBlock r) = omega arith in
+      rw (e, k)
+
+  -- data within a block
+  pub data-part : (p : Progress) (b : ℕ) (xs : List ℕ) → p .input .at + suc (length xs) ≤ inBlock r
+      → (fed r p (b ∷ xs) ≡ settled r (dataTaken r p (b ∷ xs))) × (emitted r p (b ∷ xs) ≡ (b ∷ xs) ++ placed r (dataTaken r p (b ∷ xs)))
+  data-part =
+      alike r (dataTaken r) (λ xs. xs) (λ p n. p .input .at + n ≤ inBlock r)
+      (λ p b n h. (as-data p b (omega arith), rw (lt-ltb (p .input .at) (inBlock r) (omega arith))))
+      (λ p b xs n h. data-more r p b xs) (λ b xs. refl) (λ p b n h. omega arith) (λ p n h. omega arith)
+
+  -- bytes within a field
+  pub field-part : (p : Progress) (b : ℕ) (xs : List ℕ) → (inBlock r ≤ p .input .at) × (p .input .at + suc (length xs) ≤ inUnit r)
+      → (fed r p (b ∷ xs) ≡ settled r (fieldTaken r p (b ∷ xs))) × (emitted r p (b ∷ xs) ≡ placed r (fieldTaken r p (b ∷ xs)))
+  field-part =
+      alike r (fieldTaken r) (λ xs. []) (λ p n. (inBlock r ≤ p .input .at) × (p .input .at + n ≤ inUnit r))
+      (λ p b n h. (as-field p b (h .0), rw (le-ltb (p .input .at) (inBlock r) (h .0))))
+      (λ p b xs n h. field-more p b xs (h .0)) (λ b xs. refl) (λ p b n h. omega arith) (λ p n h. omega arith)
+
+-- ---- both sides stay in step
+
+pub length-made : (r : Rule) (p : Progress) → length (fieldMade r p) ≡ 8
+unfolding fieldMade bytesOf
+length-made r p = refl
+
+length-due : (r : Rule) (p : Progress) → length (fieldDue r p) ≡ fieldSize (r .output)
+unfolding fieldSize
+length-due r p = go (signed (r .output))
+  where
+    go : (t : Bool) → length (pick t (fieldMade r p) []) ≡ pick t 8 0
+    go true = length-made r p
+    go false = refl
+
+module _ (r : Rule) (p : Progress) (s : InStep r p) where
+  pub in-step-data : (xs : List ℕ) → p .input .at + length xs ≤ inBlock r → InStep r (dataTaken r p xs)
+  in-step-data xs h = record {
+    matched = s .matched;
+    index = s .index;
+    at = omega (arith, s .at);
+    within = omega arith;
+    eight = s .eight;
+  }
+
+  pub in-step-field : (xs : List ℕ) → inBlock r ≤ p .input .at → p .input .at + length xs ≤ inUnit r → InStep r (fieldTaken r p xs)
+  in-step-field xs h k = record {
+    matched = s .matched;
+    index = s .index;
+    at = omega (arith, s .at);
+    within = k;
+    eight = length-sets (p .held) (p .input .at - inBlock r) xs ∙ s .eight;
+  }
+
+  pub in-step-settled : InStep r (settled r p) × (settled r p .input .at < inUnit r)
+  unfolding settled
+  in-step-settled = go (whole r p) refl
+    where
+      go : (t : Bool) → whole r p ≡ t → InStep r (settled r p) × (settled r p .input .at < inUnit r)
+      go true e = rw e (record { matched = s .matched; index = ap (λ (n : ℕ). n + 1) (s .index); at = omega arith; within = omega arith; eight = s .eight }, omega (arith, s .matched .some))
+      go false e =
+          let n : p .input .at ≡ inUnit r → ⊥ = eqb-false (p .input .at) (inUnit r) e in
+          rw e (s, omega (arith, n, s .within))
+
+  -- what is written grows by what is placed
+  pub written-settled : written r (settled r p) ≡ written r p + length (placed r p)
+  unfolding settled
+  written-settled = go (whole r p) refl
+    where
+      go : (t : Bool) → whole r p ≡ t → written r (settled r p) ≡ written r p + length (placed r p)
+      go true e =
+          let w : p .input .at ≡ inUnit r = eqb-true (p .input .at) (inUnit r) e in
+          rw e (rw (add-one (p .output .index), suc-mul (p .output .index) (outUnit r), length-due r p) (omega (arith, s .at, s .matched .same)))
+      go false e = rw e (omega arith)
+
+-- ---- bytes held one by one
+
+pub sets-more : (all part : List ℕ) (from i : ℕ) → i < length part
+    → sets (set all (from + i) (getD part i 0)) (from + (i + 1)) (drop (i + 1) part) ≡ sets all (from + i) (drop i part)
+sets-more all part from i h =
+    let e : from + (i + 1) ≡ suc (from + i) = omega arith in
+    rw (e, add-one i, drop-cons part i 0 h)
+
+pub sets-end : (all part : List ℕ) (from i : ℕ) → length part ≤ i → sets all (from + i) (drop i part) ≡ all
+sets-end all part from i h = rw (drop-of-length-le part h)
+
+-- ---- bounds
+
+pub offset-small : (i u : ℕ) → i ≤ 2 ^ 40 → u ≤ 4168 → i * u ≤ 2 ^ 60
+offset-small i u h k = omega (arith, mul-le-mul h k)
+
+-- what is written bounds the units
+pub countable : (r : Rule) (p : Progress) → InStep r p → written r p ≤ 2 ^ 40 → Countable r p
+countable r p s h =
+    let c : p .output .index * 1 ≤ p .output .index * outUnit r = mul-le-mul-left (p .output .index) (omega (arith, s .matched .same, s .matched .some)) in
+    record { input = omega (arith, s .index); output = omega arith; unit = omega (arith, s .matched .most, field-small (r .input)) }
+
+-- ---- settling
+
+module _ (r : Rule) (p : Progress) (l : Layout) (x : ℕ) (before : List ℕ) where
+  pub settled-partial : (u : ℕ) → u ≡ inUnit r → (p .input .at ≡ u → ⊥) → Settled r p l x before p before
+  unfolding settled
+  settled-partial u e n =
+      let w : whole r p ≡ false = ne-eqb (p .input .at) (inUnit r) (λ s. n (s ∙ sym e)) in
+      record { progress = rw w; memory = rw w (sym (scattered-none before (drop (x + written r p) (places l)))) }
+
+  pub settled-whole : (u : ℕ) → u ≡ inUnit r → p .input .at ≡ u → (q : Progress) (after : List ℕ) → q ≡ nextUnit r p
+      → after ≡ scattered before (drop (x + written r p) (places l)) (fieldDue r p) → Settled r p l x before q after
+  unfolding settled
+  settled-whole u e n q after eq ea =
+      let w : whole r p ≡ true = eq-eqb (p .input .at) (inUnit r) (n ∙ e) in
+      record { progress = rw w eq; memory = rw w ea }
+
+  -- room for what a whole unit places
+  pub room-due : (u memory : ℕ) → u ≡ inUnit r → p .input .at ≡ u → Room r p l memory x (length (placed r p)) → Room r p l memory x (length (fieldDue r p))
+  room-due u memory e n m =
+      let w : whole r p ≡ true = eq-eqb (p .input .at) (inUnit r) (n ∙ e) in
+      rw w at m

@@ -1,0 +1,20 @@
+use borrow.Author.Needs.{needs}
+use Rattle.engine.proofs.parts.take_field.Statement.{statement}
+use Rattle.engine.proofs.parts.take_field.Tie as tie
+use Rattle.engine.proofs.parts.take_field.Reads as reads
+use Rattle.engine.proofs.parts.take_field.Lts as lts
+use Rattle.engine.proofs.parts.hold.Reads as hold-reads
+use Rattle.engine.proofs.sides.block_size.Reads as block-size-reads
+block-size-requires : tie.Need-block-size-requires
+block-size-requires c κs = search needs
+sub-from : tie.Need-sub-from
+sub-from c = search needs
+hold-requires : tie.Need-hold-requires
+hold-requires c κs = search needs
+add-t14 : tie.Need-add-t14
+add-t14 c = search needs
+returns : tie.Need-returns
+returns c = rw (c .before .hold .ensures, c .before .before .before .block-size .ensures .0)
+
+pub take-field-spec : {M : Type 1} → statement M
+take-field-spec = tie.close (tie.spec block-size-requires sub-from hold-requires add-t14 returns)

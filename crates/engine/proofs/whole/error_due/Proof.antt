@@ -1,0 +1,58 @@
+use Rattle.engine.proofs.PartLaws.{offset-small}
+use mathlib.Core.Path.{sym, _∙_}
+use native.Mathlib.Omega.{arith}
+use Rattle.engine.specs.Feeding.{errorDue}
+use Rattle.engine.specs.Transfers.{errorBy}
+use borrow.Author.Needs.{needs}
+use Rattle.engine.proofs.whole.error_due.Statement.{statement}
+use Rattle.engine.proofs.whole.error_due.Tie as tie
+use Rattle.engine.proofs.whole.error_due.Reads as reads
+use Rattle.engine.proofs.whole.error_due.Lts as lts
+use Rattle.engine.proofs.sides.unit_size.Reads as unit-size-reads
+use Rattle.engine.proofs.whole.found.Reads as found-reads
+use Rattle.field.proofs.decode.Reads as decode-reads
+use Rattle.field.proofs.judge.Reads as judge-reads
+use Rattle.field.proofs.signed.Reads as signed-reads
+use Rattle.guard.proofs.finish.Reads as finish-reads
+signed-requires : tie.Need-signed-requires
+signed-requires c κs = search needs
+finish-requires : tie.Need-finish-requires
+finish-requires c κs = search needs
+decode-requires : tie.Need-decode-requires
+decode-requires c κs = search needs
+judge-requires : tie.Need-judge-requires
+judge-requires c κs = search needs
+unit-size-requires : tie.Need-unit-size-requires
+unit-size-requires c κs = search needs
+mul-found : tie.Need-mul-found
+mul-found c = 
+    let b = c .before .before .before .before .before .before .before .before .before in
+    rw (c .before .unit-size .ensures .0) (omega (arith, offset-small (b .args .p .input .index) _ (b .pre .input) (b .pre .unit)))
+
+found-requires : tie.Need-found-requires
+found-requires c κs = search needs
+returns : tie.Need-returns
+unfolding errorDue errorBy
+returns c = 
+    let b = c .before .before in
+    let s = b .before .before .before .before .before .before in
+    rw (c .found .ensures, b .unit-size .ensures .0, b .before .judge .ensures, b .before .before .decode .ensures, b .before .before .before .finish .ensures)
+    (rw (sym (s .before .signed .ensures) ∙ s .if1 .taken))
+
+returns-2 : tie.Need-returns-2
+unfolding errorDue errorBy
+returns-2 c = rw (sym (c .before .signed .ensures) ∙ c .if1 .left)
+
+pub error-due-spec : {M : Type 1} → statement M
+error-due-spec =
+    tie.close
+    (tie.spec
+    signed-requires
+    finish-requires
+    decode-requires
+    judge-requires
+    unit-size-requires
+    mul-found
+    found-requires
+    returns
+    returns-2)

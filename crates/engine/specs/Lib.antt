@@ -1,0 +1,5 @@
+pub mod Streams
+pub mod Transfers
+pub mod Feeding
+pub mod Standing
+pub mod Parts

@@ -1,0 +1,104 @@
+-- What the engine's code does with a part of the input stream that ends within its block or within its field.
+use mathlib.Core.Path.{_≡_}
+use mathlib.Core.Bool.{Bool, true, false}
+use mathlib.Core.List.{List, [], _∷_}
+use Prim.Native.Nat.{ℕ, _+_, _-_, _*_, _≤_, _<_, _^_, min}
+use lib.ListN.{length, drop}
+use lib.Seq.{sets}
+use Rattle.guard.specs.Guards.{started, advanced}
+use Rattle.field.specs.declared.Domain.{Domain}
+use Rattle.field.specs.Tests.{pick}
+use Rattle.field.specs.Domains.{signed}
+use Rattle.layout.specs.declared.Layout.{Layout}
+use Rattle.layout.specs.Pieces.{total, places}
+use Rattle.layout.specs.Moves.{Placed, scattered}
+use Rattle.engine.specs.declared.Rule.{Rule}
+use Rattle.engine.specs.declared.Side.{Side}
+use Rattle.engine.specs.declared.Progress.{Progress}
+use Rattle.engine.specs.Streams.{inBlock, inUnit, outUnit}
+use Rattle.engine.specs.Feeding.{checksGuard, makesGuard, fed, emitted, settled, placed}
+use Rattle.engine.specs.Standing.{Matched}
+
+-- a side after some data bytes
+abbrev pub sideTaken : Domain → Bool → Side → List ℕ → Side
+sideTaken d works s xs = record { index = s .index; at = s .at + length xs; guard = pick works (advanced (d .«guard_type») (s .guard) xs) (s .guard) }
+
+abbrev pub dataTaken : Rule → Progress → List ℕ → Progress
+dataTaken r p xs = record {
+  input = sideTaken (r .input) (checksGuard r) (p .input) xs;
+  output = sideTaken (r .output) (makesGuard r) (p .output) xs;
+  held = p .held;
+  slot = p .slot;
+}
+
+abbrev pub fieldTaken : Rule → Progress → List ℕ → Progress
+fieldTaken r p xs = record {
+  input = record { index = p .input .index; at = p .input .at + length xs; guard = p .input .guard };
+  output = p .output;
+  held = sets (p .held) (p .input .at - inBlock r) xs;
+  slot = p .slot;
+}
+
+-- how many bytes of the output stream are placed
+abbrev pub written : Rule → Progress → ℕ
+written r p = p .output .index * outUnit r + p .output .at
+
+-- how many bytes of the input stream have come
+abbrev pub taken : Rule → Progress → ℕ
+taken r p = p .input .index * inUnit r + p .input .at
+
+-- Both sides are in step, and the unit under way is begun and at most whole.
+pub record InStep (r : Rule) (p : Progress) : Type 0 where
+  pub matched : Matched r
+  pub index : p .output .index ≡ p .input .index
+  pub at : p .output .at ≡ min (p .input .at) (inBlock r)
+  pub within : p .input .at ≤ inUnit r
+  pub eight : length (p .held) ≡ 8
+
+-- So many bytes more fit the layout from its byte x on, behind those that are placed.
+pub record Room (r : Rule) (p : Progress) (l : Layout) (memory x more : ℕ) : Type 0 where
+  pub placed : Placed l memory
+  pub fits : x + written r p + more ≤ total l
+  pub small : total l ≤ 2 ^ 40
+
+-- What feeding gives: the engine's progress, and its output placed behind what was placed before.
+pub record Fed (r : Rule) (p : Progress) (l : Layout) (x : ℕ) (before bytes : List ℕ) (q : Progress) (after : List ℕ) : Type 0 where
+  pub progress : q ≡ fed r p bytes
+  pub memory : after ≡ scattered before (drop (x + written r p) (places l)) (emitted r p bytes)
+
+-- The same of settling.
+pub record Settled (r : Rule) (p : Progress) (l : Layout) (x : ℕ) (before : List ℕ) (q : Progress) (after : List ℕ) : Type 0 where
+  pub progress : q ≡ settled r p
+  pub memory : after ≡ scattered before (drop (x + written r p) (places l)) (placed r p)
+
+-- A part of the field that fits what is held.
+pub record Holds (r : Rule) (p : Progress) (more : ℕ) : Type 0 where
+  pub field : inBlock r ≤ p .input .at
+  pub fits : p .input .at + more ≤ inBlock r + 8
+  pub small : inBlock r ≤ 4160
+  pub eight : length (p .held) ≡ 8
+
+-- The units so far can be counted.
+pub record Countable (r : Rule) (p : Progress) : Type 0 where
+  pub input : p .input .index ≤ 2 ^ 40
+  pub output : p .output .index ≤ 2 ^ 40
+  pub unit : inUnit r ≤ 4168
+
+-- So many bytes are all of the block under way, or all of the field.
+pub record OnePart (r : Rule) (p : Progress) (n : ℕ) : Type 0 where
+  pub block : p .input .at < inBlock r → p .input .at + n ≤ inBlock r
+  pub unit : p .input .at + n ≤ inUnit r
+
+-- On the way: feeding what is left gives what feeding all bytes gives.
+pub record Going (r : Rule) (p : Progress) (l : Layout) (x : ℕ) (before bytes : List ℕ) (q : Progress) (mid rest : List ℕ) : Type 0 where
+  pub inStep : InStep r q
+  pub begun : q .input .at < inUnit r
+  pub progress : fed r q rest ≡ fed r p bytes
+  pub memory : scattered mid (drop (x + written r q) (places l)) (emitted r q rest) ≡ scattered before (drop (x + written r p) (places l)) (emitted r p bytes)
+  pub room : Room r q l (length mid) x (length (emitted r q rest))
+  pub size : length mid ≡ length before
+
+-- Neither side is signed.
+pub record Bare (r : Rule) : Type 0 where
+  pub input : signed (r .input) ≡ false
+  pub output : signed (r .output) ≡ false

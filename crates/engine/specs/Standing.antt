@@ -1,0 +1,64 @@
+-- Where the engine stands after some bytes of the input stream, said by the transfer rule.
+use mathlib.Core.Path.{_≡_}
+use mathlib.Core.Bool.{Bool, true, false}
+use mathlib.Core.List.{List, [], _∷_, _++_}
+use Prim.Native.Nat.{ℕ, _*_, _≤_, _<_}
+use lib.ListN.{length, take, drop}
+use Rattle.guard.specs.declared.Running.{Running}
+use Rattle.guard.specs.Guards.{started, advanced}
+use Rattle.field.specs.declared.Domain.{Domain}
+use Rattle.field.specs.Tests.{pick}
+use Rattle.field.specs.Domains.{signed}
+use Rattle.field.specs.Fields.{fieldOf}
+use Rattle.key.specs.declared.Slot.{Slot}
+use Rattle.key.specs.Keys.{keep}
+use Rattle.engine.specs.declared.Rule.{Rule}
+use Rattle.engine.specs.declared.Progress.{Progress}
+use Rattle.engine.specs.Streams.{inBlock, inUnit, outBlock, inputBlock}
+use Rattle.engine.specs.Transfers.{joined, fieldBehind, outputStream, firstError}
+use Rattle.engine.specs.Feeding.{checksGuard, makesGuard}
+
+-- What an accepted configuration gives a rule: one block size for both sides, and numbers in the range of their types.
+pub record Matched (r : Rule) : Type 0 where
+  pub same : outBlock r ≡ inBlock r
+  pub some : 1 ≤ inBlock r
+  pub most : inBlock r ≤ 4160
+  pub inSeed : r .input .seed ≤ 65535
+  pub outSeed : r .output .seed ≤ 65535
+  pub masks : r .«copy_mask» < 256
+
+-- an output unit where both sides have one block size: the block that came in, and its field
+abbrev pub unitOut : Rule → List ℕ → ℕ → List ℕ
+unitOut r stream i = inputBlock r stream i ++ fieldBehind r stream i (inputBlock r stream i)
+
+-- a domain's running guard over a block's first bytes, where it is worked out
+abbrev pub running : Domain → Bool → List ℕ → Running
+running d works bytes =
+    pick works (advanced (d .«guard_type») (started (d .seed)) bytes) (started (d .seed))
+
+-- The progress p after the bytes xs, with out placed: `past` came as whole units and `left` over them, at most a unit.
+pub record Reached (r : Rule) (slot : Slot) (xs : List ℕ) (p : Progress) (out : List ℕ) : Type 0 where
+  pub past : List ℕ
+  pub left : List ℕ
+  pub split : xs ≡ past ++ left
+  pub behind : length past ≡ p .input .index * inUnit r
+  pub under : length left ≡ p .input .at
+  pub within : p .input .at ≤ inUnit r
+  pub index : p .output .index ≡ p .input .index
+  pub at : p .output .at ≡ length (take (inBlock r) left)
+  pub inGuard : p .input .guard ≡ running (r .input) (checksGuard r) (take (inBlock r) left)
+  pub outGuard : p .output .guard ≡ running (r .output) (makesGuard r) (take (inBlock r) left)
+  pub eight : length (p .held) ≡ 8
+  pub held : take (length (drop (inBlock r) left)) (p .held) ≡ drop (inBlock r) left
+  pub bare : signed (r .input) ≡ false → fieldOf (p .held) ≡ fieldOf []
+  pub error : p .slot ≡ keep slot (firstError r past (p .input .index))
+  pub shown : out ≡ joined _++_ [] (unitOut r past) 0 (p .input .index) ++ take (inBlock r) left
+
+-- What the engine has placed and recorded once a stream of n units has come.
+pub record Finished (r : Rule) (slot : Slot) (stream : List ℕ) (n : ℕ) (p : Progress) (out : List ℕ) : Type 0 where
+  pub input : p .input .index ≡ n
+  pub output : p .output .index ≡ n
+  pub inAt : p .input .at ≡ 0
+  pub outAt : p .output .at ≡ 0
+  pub error : p .slot ≡ keep slot (firstError r stream n)
+  pub shown : out ≡ outputStream r stream n n

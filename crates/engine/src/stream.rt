@@ -1,0 +1,104 @@
+// Feeding the input stream, part by part.
+ghost use mathlib.Core.Path.{_≡_};
+ghost use Prim.Native.Nat.{_+_, _≤_, _<_, _^_, min};
+ghost use lib.ListN.{length};
+ghost use Rattle.engine.specs.Streams.{inUnit};
+ghost use Rattle.engine.specs.Feeding.{emitted};
+ghost use Rattle.engine.specs.Parts.{OnePart, Bare, InStep, Room, Fed};
+use crate::parts;
+use crate::sides;
+use crate::sides::block_size;
+use crate::sides::unit_size;
+use crate::sides::written;
+use crate::whole;
+use crate::Progress;
+use crate::Rule;
+use layout::Layout;
+use layout::LayoutOffset;
+
+// How many of so many bytes belong to the block or to the field under way.
+fn part_length(rule: Rule, p: Progress, bytes: usize) -> usize
+    requires { ⌜ (InStep rule p) × (p .input .at < inUnit rule) × (0 < bytes) ⌝ }
+    ensures { λ r. ⌜ (OnePart rule p r) × (0 < r) × (r ≤ bytes) ⌝ }
+{
+    let at = p.input.at;
+    let block = block_size(rule.input, rule.output);
+    if at < block {
+        return lesser(block - at, bytes);
+    }
+    lesser(unit_size(rule.input, rule.output) - at, bytes)
+}
+
+fn lesser(a: u64, b: usize) -> usize
+    ensures { λ r. ⌜ r ≡ min a b ⌝ }
+{
+    let n = a as usize;
+    if n < b { n } else { b }
+}
+
+// Feeds a part that is all of one block's data or all of one field: data is placed at once, a field held, and a whole unit settled.
+fn feed_part(rule: Rule, p: Progress, l: Layout, memory: &mut [u8], start: LayoutOffset, part: &[u8]) -> Progress
+    requires { ⌜ InStep rule p ⌝ }
+    requires { ⌜ (OnePart rule p (length (now part))) × (0 < length (now part)) × (Room rule p l (length (now memory)) (start .0) (length (emitted rule p (now part)))) ⌝ }
+    ensures { λ r. ⌜ Fed rule p l (start .0) (now (memory .entry)) (now (part .entry)) r (now (memory .exit)) ⌝ }
+{
+    let at = p.input.at;
+    if at < block_size(rule.input, rule.output) {
+        layout::scatter(l, memory, start.ahead(written(rule, p)), part);
+        return whole::settle(rule, parts::take_data(rule, p, part), l, memory, start);
+    }
+    whole::settle(rule, parts::take_field(rule, p, part), l, memory, start)
+}
+
+// Feeds bytes part by part.
+fn feed_parts(rule: Rule, p: Progress, l: Layout, memory: &mut [u8], start: LayoutOffset, bytes: &[u8]) -> Progress
+    requires { ⌜ (InStep rule p) × (p .input .at < inUnit rule) ⌝ }
+    requires { ⌜ Room rule p l (length (now memory)) (start .0) (length (emitted rule p (now bytes))) ⌝ }
+    ensures { λ r. ⌜ Fed rule p l (start .0) (now (memory .entry)) (now (bytes .entry)) r (now (memory .exit)) ⌝ }
+{
+    let mut q = p;
+    let mut rest = bytes;
+    while 0 < rest.len() {
+        let n = part_length(rule, q, rest.len());
+        q = feed_part(rule, q, l, memory, start, &rest[0..n]);
+        rest = &rest[n..];
+    }
+    q
+}
+
+// Feeds bytes where neither side is signed: each byte is a unit, and all go at once.
+fn feed_bare(rule: Rule, p: Progress, l: Layout, memory: &mut [u8], start: LayoutOffset, bytes: &[u8]) -> Progress
+    requires { ⌜ (InStep rule p) × (p .input .at < inUnit rule) × (Bare rule) ⌝ }
+    requires { ⌜ Room rule p l (length (now memory)) (start .0) (length (emitted rule p (now bytes))) ⌝ }
+    ensures { λ r. ⌜ Fed rule p l (start .0) (now (memory .entry)) (now (bytes .entry)) r (now (memory .exit)) ⌝ }
+{
+    if bytes.len() == 0 {
+        return p;
+    }
+    layout::scatter(l, memory, start.ahead(written(rule, p)), bytes);
+    let held = p.held;
+    let slot = p.slot;
+    let input = sides::at_block(rule.input, p.input.index + bytes.len() as u64);
+    let output = sides::at_block(rule.output, p.output.index + bytes.len() as u64);
+    Progress {
+        input,
+        output,
+        held,
+        slot,
+    }
+}
+
+// Feeds bytes of the input stream, which may end anywhere, and places what becomes known of the output stream from layout byte start on.
+pub fn feed(rule: Rule, p: Progress, l: Layout, memory: &mut [u8], start: LayoutOffset, bytes: &[u8]) -> Progress
+    requires { ⌜ (InStep rule p) × (p .input .at < inUnit rule) ⌝ }
+    requires { ⌜ Room rule p l (length (now memory)) (start .0) (length (emitted rule p (now bytes))) ⌝ }
+    ensures { λ r. ⌜ Fed rule p l (start .0) (now (memory .entry)) (now (bytes .entry)) r (now (memory .exit)) ⌝ }
+{
+    if field::signed(rule.input) {
+        return feed_parts(rule, p, l, memory, start, bytes);
+    }
+    if field::signed(rule.output) {
+        return feed_parts(rule, p, l, memory, start, bytes);
+    }
+    feed_bare(rule, p, l, memory, start, bytes)
+}

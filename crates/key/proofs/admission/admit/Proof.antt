@@ -1,0 +1,73 @@
+-- Each return follows the tests before it; what a configured key holds meets what the tests ask.
+use mathlib.Core.Path.{sym, _∙_}
+use borrow.Author.Tests.{not-false, eq-eqb, ne-eqb}
+use Rattle.key.specs.Admitting.{openAnswer}
+use Rattle.key.proofs.Laws.{Accepts, accepted, sized, bounded}
+use Rattle.key.proofs.admission.admit.Statement.{statement}
+use Rattle.key.proofs.admission.admit.Tie as tie
+
+-- a key past 14 holds what configure accepted
+held : (c : tie.Else1) → Accepts (c .before .before .before .args .key .«memory_length») (record { signature = c .before .before .before .args .key .signature; layout = c .before .before .before .args .key .layout })
+held c =
+    let s = c .before .before .before in
+    accepted (s .args .key) (s .pre) (not-false (s .args .key .configured) (c .if1 .left))
+
+returns : tie.Need-returns
+unfolding openAnswer
+returns c = rw (c .if1 .taken)
+
+returns-2 : tie.Need-returns-2
+unfolding openAnswer
+returns-2 c = rw (c .before .before .if1 .left, ne-eqb _ _ (c .if2 .taken))
+
+partial-requires : tie.Need-partial-requires
+partial-requires c κs =
+    let e = c .before .before .before in
+    sized (e .before .before .before .args .key .signature .memory) (held e .signs .memory)
+
+partial-requires-2 : tie.Need-partial-requires-2
+partial-requires-2 c κs =
+    let e = c .before .before .before .before in
+    sized (e .before .before .before .args .key .signature .wire) (held e .signs .wire)
+
+returns-3 : tie.Need-returns-3
+unfolding openAnswer
+returns-3 c =
+    let p = c .before in
+    let n = p .before .before .before in
+    rw (n .before .before .if1 .left, eq-eqb _ _ (n .if2 .left), rw (p .partial2 .ensures, p .before .partial .ensures) at (c .if3 .taken))
+
+past-requires : tie.Need-past-requires
+past-requires c κs =
+    let e = c .before .before .before .before .before .before in
+    let k = e .before .before .before .args .key in
+    (bounded (k .layout) (k .«memory_length») (held e .sound) (held e .limit), sized (k .signature .memory) (held e .signs .memory))
+
+returns-4 : tie.Need-returns-4
+unfolding openAnswer
+returns-4 c =
+    let o = c .before .before in
+    let p = o .before in
+    let n = p .before .before .before in
+    rw (n .before .before .if1 .left, eq-eqb _ _ (n .if2 .left), rw (p .partial2 .ensures, p .before .partial .ensures) at (o .if3 .left), sym (c .before .past .ensures) ∙ c .if4 .taken)
+
+returns-5 : tie.Need-returns-5
+unfolding openAnswer
+returns-5 c =
+    let o = c .before .before in
+    let p = o .before in
+    let n = p .before .before .before in
+    rw (n .before .before .if1 .left, eq-eqb _ _ (n .if2 .left), rw (p .partial2 .ensures, p .before .partial .ensures) at (o .if3 .left), sym (c .before .past .ensures) ∙ c .if4 .left)
+
+pub admit-spec : {M : Type 1} → statement M
+admit-spec =
+    tie.close
+    (tie.spec
+    returns
+    returns-2
+    partial-requires
+    partial-requires-2
+    returns-3
+    past-requires
+    returns-4
+    returns-5)

@@ -1,0 +1,5 @@
+pub mod Numbers
+pub mod Configuring
+pub mod Keys
+pub mod Streams
+pub mod Admitting

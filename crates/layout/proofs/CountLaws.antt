@@ -1,0 +1,47 @@
+-- A layout without overlaps has no more bytes than the memory it lies in. Assumes nothing.
+use mathlib.Core.Path.{_≡_, refl, sym, _∙_}
+use mathlib.Core.Bool.{Bool, true, false}
+use Prim.Native.Nat.{ℕ, zero, suc, _≤_, _<_, zero-le, suc-le-suc}
+use native.Mathlib.Omega.{arith}
+use lib.Dec.{eqb}
+use lib.ListN.{length, getD}
+use borrow.Author.Tests.{eqb-true, eqb-false}
+use Rattle.layout.specs.declared.Layout.{Layout}
+use Rattle.layout.specs.declared.answer.Verdict.the-variants.{Sound}
+use Rattle.layout.specs.Pieces.{places, total}
+use Rattle.layout.specs.Moves.{Distinct, Below}
+use Rattle.layout.specs.Answers.{verdictOn}
+use Rattle.layout.proofs.PieceLaws.{length-places}
+use Rattle.layout.proofs.AnswerLaws.{sound-distinct, sound-below}
+
+-- f without the value n: where it was, the value at m stands
+abbrev other : Bool → ℕ → ℕ → ℕ
+other true a b = a
+other false a b = b
+
+-- m different numbers below n are at most n
+pigeonhole : (n m : ℕ) (f : ℕ → ℕ) → ((i : ℕ) → i < m → f i < n) → ((i j : ℕ) → i < m → j < m → f i ≡ f j → i ≡ j) → m ≤ n
+pigeonhole n zero f b d = zero-le
+pigeonhole zero (suc m) f b d = absurd (omega (arith, b 0 (omega arith)))
+pigeonhole (suc n) (suc m) f b d = suc-le-suc (pigeonhole n m (λ i. other (eqb (f i) n) (f m) (f i)) (λ i h. below i h (eqb (f i) n) refl) (λ i j h k. differ i j h k (eqb (f i) n) (eqb (f j) n) refl refl))
+  where
+    last : (i : ℕ) → i < m → f i ≡ f m → ⊥
+    last i h e = let z : i ≡ m = d i m (omega arith) (omega arith) e in omega arith
+    below : (i : ℕ) → i < m → (t : Bool) → eqb (f i) n ≡ t → other t (f m) (f i) < n
+    below i h true e =
+        let z : f i ≡ n = eqb-true (f i) n e in
+        let y : f m ≡ n → ⊥ = λ q. last i h (z ∙ sym q) in
+        omega (arith, b m (omega arith), y)
+    below i h false e =
+        let z : f i ≡ n → ⊥ = eqb-false (f i) n e in
+        omega (arith, b i (omega arith), z)
+    differ : (i j : ℕ) → i < m → j < m → (t u : Bool) → eqb (f i) n ≡ t → eqb (f j) n ≡ u → other t (f m) (f i) ≡ other u (f m) (f j) → i ≡ j
+    differ i j h k true true e q z = d i j (omega arith) (omega arith) (eqb-true (f i) n e ∙ sym (eqb-true (f j) n q))
+    differ i j h k true false e q z = absurd (last j k (sym z))
+    differ i j h k false true e q z = absurd (last i h z)
+    differ i j h k false false e q z = d i j (omega arith) (omega arith) z
+
+pub sound-total : (l : Layout) (n : ℕ) → verdictOn l n ≡ Sound → total l ≤ n
+sound-total l n s =
+    let e = length-places l in
+    omega (arith, pigeonhole n (length (places l)) (λ i. getD (places l) i 0) (sound-below l n s) (sound-distinct l n s))
