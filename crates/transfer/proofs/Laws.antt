@@ -1,0 +1,219 @@
+-- From an accepted transfer to the engine: sizes, and what feeding the whole input stream gives. Assumes nothing.
+use mathlib.Core.Path.{_≡_, refl, sym, ap, _∙_}
+use mathlib.Core.Bool.{Bool, true, false}
+use mathlib.Core.List.{List, [], _∷_, _++_}
+use Prim.Native.Nat.{ℕ, zero, suc, _+_, _-_, _*_, _/_, _%_, _^_, _≤_, _<_}
+use native.Mathlib.Nat.{div-add-mod', mul-add, zero-mul}
+use native.Mathlib.Omega.{arith}
+use lib.ListN.{length, take, drop}
+use lib.Seq.{length-take-le}
+use Rattle.guard.specs.Guards.{Bytes}
+use Rattle.field.specs.declared.Domain.{Domain}
+use Rattle.field.specs.Tests.{and, pick}
+use Rattle.field.specs.Domains.{signed}
+use Rattle.key.specs.declared.Slot.{Slot}
+use Rattle.key.specs.declared.Slot.the-variants.{Empty}
+use Rattle.key.specs.Configuring.{GoodDomain}
+use Rattle.key.specs.Streams.{streamLength, Measured}
+use Rattle.key.specs.declared.Key.{Key}
+use Rattle.key.specs.declared.Refusal.{Refusal}
+use Rattle.key.specs.declared.Outcome.{Outcome}
+use Rattle.key.specs.declared.Outcome.the-variants.{Done, Refused}
+use Rattle.key.specs.Keys.{keep, withSlot, CameFromCalls}
+use Rattle.key.specs.Admitting.{Blocks, Admitted, transferAnswer}
+use Rattle.key.proofs.Laws.{admitted, transfer-admitted, accepted}
+use Rattle.layout.specs.Pieces.{total}
+use Rattle.layout.proofs.CountLaws.{sound-total}
+use Rattle.engine.specs.declared.Rule.{Rule}
+use Rattle.engine.specs.Streams.{blockSize, fieldSize, unitSize, inBlock, inUnit, outBlock, outUnit}
+use Rattle.engine.specs.Transfers.{outputStream, firstError}
+use Rattle.engine.specs.Feeding.{fed, emitted, begun}
+use Rattle.engine.specs.Standing.{Matched}
+use Rattle.engine.specs.declared.Progress.{Progress}
+use Rattle.engine.specs.Parts.{InStep, Room, Fed, written}
+use Rattle.engine.proofs.Settling.{bytes-take}
+use Rattle.engine.proofs.Feeding.{finished-fed}
+use Rattle.engine.proofs.FeedLaws.{fed-after}
+use Rattle.transfer.specs.declared.Transferred.{Transferred}
+use Rattle.transfer.specs.Rules.{sendRule, receiveRule, outputOf, errorIn, Ranged}
+use Rattle.transfer.specs.Transferring.{wireStream, memoryStream, answered, answerOf, receiving, memoryReceived, sending, wireSent}
+
+-- What an accepted transfer of so many data bytes tells of two domains.
+pub record Agree (a b : Domain) (count : ℕ) : Type 0 where
+  pub first : signed a ≡ true → Blocks a count
+  pub second : signed b ≡ true → Blocks b count
+  pub alike : signed a ≡ true → signed b ≡ true → a .«block_size» ≡ b .«block_size»
+
+pub agree-back : {a b : Domain} {count : ℕ} → Agree a b count → Agree b a count
+agree-back g = record { first = g .second; second = g .first; alike = λ x y. sym (g .alike y x) }
+
+-- a number of whole blocks
+whole-blocks : (n b : ℕ) → n % b ≡ 0 → n / b * b ≡ n
+whole-blocks n b h = omega (arith, div-add-mod' n b)
+
+module _ (a b : Domain) (count : ℕ) (g : Agree a b count) where
+  -- the block size of a domain, by which sides are signed
+  data Size (n : ℕ) : Type 0 where
+    own : signed a ≡ true → n ≡ a .«block_size» → Size n
+    its : signed a ≡ false → signed b ≡ true → n ≡ b .«block_size» → Size n
+    one : signed a ≡ false → signed b ≡ false → n ≡ 1 → Size n
+
+  size : Size (blockSize a b)
+  unfolding blockSize
+  size = go (signed a) (signed b) refl refl
+    where
+      go : (s t : Bool) → signed a ≡ s → signed b ≡ t → Size (blockSize a b)
+      go true t e f = own e (rw e)
+      go false true e f = its e f (rw (e, f))
+      go false false e f = one e f (rw (e, f))
+
+  bounds : (1 ≤ blockSize a b) × (blockSize a b ≤ 4160) × (count % blockSize a b ≡ 0)
+  bounds = go (blockSize a b) size
+    where
+      go : (n : ℕ) → Size n → (1 ≤ n) × (n ≤ 4160) × (count % n ≡ 0)
+      go n (own e q) = rw q (omega (arith, g .first e .good .least), g .first e .good .most, g .first e .whole)
+      go n (its e f q) = rw q (omega (arith, g .second f .good .least), g .second f .good .most, g .second f .whole)
+      go n (one e f q) = rw q (omega arith, omega arith, omega arith)
+
+  same-size : blockSize b a ≡ blockSize a b
+  unfolding blockSize
+  same-size = go (signed a) (signed b) refl refl
+    where
+      go : (s t : Bool) → signed a ≡ s → signed b ≡ t → blockSize b a ≡ blockSize a b
+      go true true e f = rw (e, f) (sym (g .alike e f))
+      go true false e f = rw (e, f)
+      go false true e f = rw (e, f)
+      go false false e f = rw (e, f)
+
+  -- a stream is so many units
+  pub stream-units : streamLength a count ≡ count / blockSize a b * unitSize a b
+  unfolding streamLength fieldSize
+  stream-units = go (signed a) refl
+    where
+      blocks : count / blockSize a b * blockSize a b ≡ count
+      blocks = whole-blocks count (blockSize a b) (bounds .2)
+      own-size : signed a ≡ true → blockSize a b ≡ a .«block_size»
+      own-size e = unfold blockSize in rw e
+      go : (s : Bool) → signed a ≡ s → streamLength a count ≡ count / blockSize a b * unitSize a b
+      go true e =
+          let s : streamLength a count ≡ count + count / blockSize a b * 8 = (rw e) ∙ ap (λ (n : ℕ). count + count / n * 8) (sym (own-size e)) in
+          let u : fieldSize a ≡ 8 = rw e in
+          s ∙ rw u (omega (arith, blocks, mul-add (count / blockSize a b) (blockSize a b) 8))
+      go false e = rw e (omega (arith, blocks, mul-add (count / blockSize a b) (blockSize a b) 0))
+
+-- What the engine needs of a rule for so many data bytes, whose streams have these lengths.
+pub record Ready (r : Rule) (count i o : ℕ) : Type 0 where
+  pub matched : Matched r
+  pub input : i ≡ count / inBlock r * inUnit r
+  pub output : o ≡ count / inBlock r * outUnit r
+  pub blocks : count / outBlock r ≡ count / inBlock r
+
+pub ready : (r : Rule) (count : ℕ) → Agree (r .input) (r .output) count → r .input .seed ≤ 65535 → r .output .seed ≤ 65535 → r .«copy_mask» < 256
+    → Ready r count (streamLength (r .input) count) (streamLength (r .output) count)
+ready r count g s t m =
+    let a = r .input in
+    let b = r .output in
+    let same = same-size a b count g in
+    record {
+      matched = record { same = same; some = bounds a b count g .0; most = bounds a b count g .1; inSeed = s; outSeed = t; masks = m };
+      input = stream-units a b count g;
+      output = stream-units b a count (agree-back g) ∙ rw same;
+      blocks = rw same;
+    }
+
+begun-in-step : (r : Rule) (slot : Slot) → Matched r → InStep r (begun r slot)
+begun-in-step r slot m = record { matched = m; index = refl; at = omega arith; within = omega arith; eight = refl }
+
+-- What feeding the whole input stream gives.
+pub record Whole (r : Rule) (stream : List ℕ) (count output : ℕ) : Type 0 where
+  pub inStep : InStep r (begun r Empty)
+  pub some : 0 < inUnit r
+  pub shown : emitted r (begun r Empty) stream ≡ outputOf r stream count
+  pub size : length (emitted r (begun r Empty) stream) ≡ output
+  pub error : fed r (begun r Empty) stream .slot ≡ errorIn r stream count
+
+pub whole : (r : Rule) (count input output : ℕ) → Ready r count input output → (stream : List ℕ) → Bytes stream → length stream ≡ input → Whole r stream count output
+whole r count input output R stream b e =
+    let s = begun-in-step r Empty (R .matched) in
+    let n : 0 < inUnit r = omega (arith, R .matched .some) in
+    let f = finished-fed r (R .matched) Empty stream (count / inBlock r) b (e ∙ R .input) in
+    let w = fed-after r (begun r Empty) s n stream .2 in
+    record {
+      inStep = s;
+      some = n;
+      shown = f .shown ∙ rw (R .blocks);
+      size = omega (arith, w, f .outAt, ap (λ (i : ℕ). i * outUnit r) (f .output), R .output, zero-mul (outUnit r));
+      error = f .error;
+    }
+
+-- ---- an accepted transfer
+
+-- All that an accepted transfer tells, on a memory of n and a wire of w bytes.
+pub record Accepted (k : Key) (n x count w : ℕ) : Type 0 where
+  pub admitted : Admitted k n x count
+  pub wire : streamLength (k .signature .wire) count ≤ w
+  pub small : total (k .layout) ≤ n
+  pub agree : Agree (k .signature .memory) (k .signature .wire) count
+  pub measured : Measured (k .signature .memory) count × Measured (k .signature .wire) count
+
+pub accept : (k : Key) (n x count w : ℕ) → CameFromCalls k → transferAnswer k n x count w ≡ Done → Accepted k n x count w
+accept k n x count w c e =
+    let t = transfer-admitted k n x count w e in
+    let a = admitted k n x count c (t .0) in
+    record {
+      admitted = a;
+      wire = t .1;
+      small = rw (a .lent) (sound-total (k .layout) (k .«memory_length») (accepted k c (a .configured) .sound));
+      agree = record { first = a .memory; second = a .wire; alike = a .alike };
+      measured = (record { sized = λ s. a .memory s .good .least; short = omega (arith, a .short) }, record { sized = λ s. a .wire s .good .least; short = omega (arith, a .short) });
+    }
+
+-- ---- receive
+
+module _ (k : Key) (memory wire : List ℕ) (x count : ℕ) (c : CameFromCalls k) (e : answerOf k memory wire x count ≡ Done) (g : Ranged (receiveRule (k .signature)))
+    (b : Bytes wire) where
+  receive-accepted : Accepted k (length memory) x count (length wire)
+  receive-accepted = accept k (length memory) x count (length wire) c e
+
+  receive-whole : Whole (receiveRule (k .signature)) (wireStream k wire count) count (streamLength (k .signature .memory) count)
+  receive-whole =
+      whole (receiveRule (k .signature)) count _ _ (ready (receiveRule (k .signature)) count (agree-back (receive-accepted .agree)) (g .inSeed) (g .outSeed) (g .masks))
+      (wireStream k wire count) (bytes-take (streamLength (k .signature .wire) count) wire b) (length-take-le (streamLength (k .signature .wire) count) wire (receive-accepted .wire))
+
+  -- what feeding the wire's stream asks
+  pub receive-asks : (InStep (receiveRule (k .signature)) (begun (receiveRule (k .signature)) Empty) × (0 < inUnit (receiveRule (k .signature))))
+      × Room (receiveRule (k .signature)) (begun (receiveRule (k .signature)) Empty) (k .layout) (length memory) x
+        (length (emitted (receiveRule (k .signature)) (begun (receiveRule (k .signature)) Empty) (wireStream k wire count)))
+  receive-asks =
+      let a = receive-accepted .admitted in
+      ( (receive-whole .inStep, receive-whole .some)
+      , record {
+        placed = a .placed;
+        fits = omega (arith, receive-whole .size, a .inside, zero-mul (outUnit (receiveRule (k .signature))));
+        small = omega (arith, receive-accepted .small, a .limit);
+      }
+      )
+
+  -- what it gives
+  pub receive-gives : (q : Progress) (after : List ℕ) → Fed (receiveRule (k .signature)) (begun (receiveRule (k .signature)) Empty) (k .layout) x memory (wireStream k wire count) q after
+      → ( _≡_ {A = Transferred} (record {
+            outcome = Done;
+            taken = streamLength (k .signature .wire) count;
+            written = streamLength (k .signature .memory) count;
+            key = withSlot k (keep (k .slot) (q .slot));
+          }) (receiving k memory wire x count)
+        × (after ≡ memoryReceived k memory wire x count)
+        )
+  unfolding receiving memoryReceived
+  receive-gives q after f =
+      let s : q .slot ≡ errorIn (receiveRule (k .signature)) (wireStream k wire count) count = ap (λ (p : Progress). p .slot) (f .progress) ∙ receive-whole .error in
+      let z : x + written (receiveRule (k .signature)) (begun (receiveRule (k .signature)) Empty) ≡ x = omega (arith, zero-mul (outUnit (receiveRule (k .signature)))) in
+      rw e (ap (λ (s : Slot). answered Done k (streamLength (k .signature .wire) count) (streamLength (k .signature .memory) count) s) s, f .memory ∙ rw (z, receive-whole .shown))
+
+-- a refused call
+pub receive-refused : (k : Key) (memory wire : List ℕ) (x count : ℕ) (o : Outcome) (r : Refusal) → o ≡ answerOf k memory wire x count → o ≡ Refused r
+    → ( _≡_ {A = Transferred} (record { outcome = o; taken = 0; written = 0; key = k }) (receiving k memory wire x count)
+      × (memory ≡ memoryReceived k memory wire x count)
+      )
+unfolding receiving memoryReceived
+receive-refused k memory wire x count o r a e = rw (← a, e) (refl, refl)

@@ -1,0 +1,41 @@
+// Receive.
+ghost use mathlib.Core.Path.{_≡_};
+ghost use Rattle.key.specs.Keys.{CameFromCalls};
+ghost use Rattle.transfer.specs.Transferring as transferring;
+use crate::rules;
+use crate::Transferred;
+use key::Key;
+use key::Outcome;
+use key::Slot;
+use layout::LayoutOffset;
+
+// The wire's stream checked and put in its places in memory.
+pub fn receive(key: Key, memory: &mut [u8], wire: &[u8], offset: LayoutOffset, data_length: u64) -> Transferred
+    requires { ⌜ CameFromCalls key ⌝ }
+    ensures { λ r. ⌜ r ≡ transferring.receiving key (now (memory .entry)) (now (wire .entry)) (offset .0) «data_length» ⌝ }
+    ensures { λ _. ⌜ now (memory .exit) ≡ transferring.memoryReceived key (now (memory .entry)) (now (wire .entry)) (offset .0) «data_length» ⌝ }
+{
+    let outcome = key::admit_transfer(key, memory, wire, offset, data_length);
+    let Outcome::Done = outcome else {
+        return Transferred {
+            outcome,
+            taken: 0,
+            written: 0,
+            key,
+        };
+    };
+    let signature = key.signature;
+    let layout = key.layout;
+    let rule = rules::receive_rule(signature);
+    rules::ranged(rule);
+    let taken = key::stream_length(signature.wire, data_length);
+    let n = taken as usize;
+    let p = engine::feed(rule, engine::begin(rule, Slot::Empty), layout, memory, offset, &wire[0..n]);
+    let slot = p.slot;
+    Transferred {
+        outcome: Outcome::Done,
+        taken,
+        written: key::stream_length(signature.memory, data_length),
+        key: key::record(key, slot),
+    }
+}
