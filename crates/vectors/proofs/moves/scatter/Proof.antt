@@ -1,0 +1,17 @@
+-- The arrays are as long as the layout and its memory.
+use borrow.Author.Needs.{needs}
+use Rattle.layout.proofs.PieceLaws.{placed-more}
+use Rattle.vectors.proofs.moves.scatter.Statement.{statement}
+use Rattle.vectors.proofs.moves.scatter.Tie as tie
+
+new-requires : tie.Need-new-requires
+new-requires c κs = search needs
+
+scatter-requires : tie.Need-scatter-requires
+scatter-requires c κs = (placed-more {n = 1044} (search needs) (c .before .before .before .pre .placed), search needs)
+
+returns : tie.Need-returns
+returns c = search needs
+
+pub scatter-spec : {M : Type 1} → statement M
+scatter-spec = tie.close (tie.spec new-requires scatter-requires returns)

@@ -1,0 +1,17 @@
+// SBC-3's and RFC 1071's vectors and the scope paper's cases E, F, G, J, K and L, run through guard and layout.
+// The file `stdout` has what the papers give; it was worked out without this code.
+mod guards;
+mod layouts;
+mod lines;
+mod moves;
+
+fn main() {
+    guards::print_crc();
+    guards::print_checksum();
+    guards::print_seeds();
+    layouts::print_answers();
+    layouts::print_malformed();
+    layouts::print_edges();
+    layouts::print_spots();
+    moves::print();
+}
