@@ -6,6 +6,7 @@ mod stream;
 mod whole;
 
 pub use sides::block_size;
+pub use sides::taken;
 pub use sides::unit_size;
 pub use sides::written;
 pub use stream::feed;

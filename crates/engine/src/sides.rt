@@ -99,3 +99,11 @@ pub fn written(rule: Rule, p: Progress) -> u64
 {
     p.output.index * unit_size(rule.output, rule.input) + p.output.at
 }
+
+// How many bytes of the input stream have come.
+pub fn taken(rule: Rule, p: Progress) -> u64
+    requires { ⌜ parts.taken rule p ≤ 2 ^ 40 ⌝ }
+    ensures { λ r. ⌜ r ≡ parts.taken rule p ⌝ }
+{
+    p.input.index * unit_size(rule.input, rule.output) + p.input.at
+}

@@ -125,7 +125,7 @@ bytes-gathered m (p ∷ ps) h zero = h p
 bytes-gathered m (p ∷ ps) h (suc i) = bytes-gathered m ps h i
 
 -- fields at most double a stream
-stream-double : (d : Domain) (n : ℕ) → Sized d → streamLength d n ≤ n + n
+pub stream-double : (d : Domain) (n : ℕ) → Sized d → streamLength d n ≤ n + n
 unfolding streamLength
 stream-double d n s = go (signed d) refl
   where

@@ -1,0 +1,20 @@
+use native.Mathlib.Omega.{arith}
+use borrow.Author.Needs.{needs}
+use Rattle.engine.proofs.sides.taken.Statement.{statement}
+use Rattle.engine.proofs.sides.taken.Tie as tie
+use Rattle.engine.proofs.sides.taken.Reads as reads
+use Rattle.engine.proofs.sides.taken.Lts as lts
+use Rattle.engine.proofs.sides.unit_size.Reads as unit-size-reads
+unit-size-requires : tie.Need-unit-size-requires
+unit-size-requires c κs = search needs
+mul-result : tie.Need-mul-result
+mul-result c = rw (c .before .unit-size .ensures .0) (omega (arith, c .before .before .pre))
+
+add-result : tie.Need-add-result
+add-result c = rw (c .before .before .unit-size .ensures .0) (omega (arith, c .before .before .before .pre))
+
+returns : tie.Need-returns
+returns c = rw (c .before .before .unit-size .ensures .0)
+
+pub taken-spec : {M : Type 1} → statement M
+taken-spec = tie.close (tie.spec unit-size-requires mul-result add-result returns)

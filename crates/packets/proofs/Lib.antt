@@ -1,0 +1,3 @@
+pub mod PacketLaws
+pub mod RuleLaws
+pub mod Following

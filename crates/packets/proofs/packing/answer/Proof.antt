@@ -1,0 +1,32 @@
+use native.Mathlib.Omega.{arith}
+use Rattle.packets.proofs.PacketLaws.{session-short, answer-8, answer-12, answer-0}
+use borrow.Author.Needs.{needs}
+use Rattle.packets.proofs.packing.answer.Statement.{statement}
+use Rattle.packets.proofs.packing.answer.Tie as tie
+use Rattle.packets.proofs.packing.answer.Reads as reads
+use Rattle.packets.proofs.packing.answer.Lts as lts
+use Rattle.packets.proofs.packing.taken.Reads as taken-reads
+use Rattle.packets.proofs.packing.wire_length.Reads as wire-length-reads
+returns : tie.Need-returns
+returns c = answer-8 _ _ _ (c .if1 .taken)
+
+wire-length-requires : tie.Need-wire-length-requires
+wire-length-requires c κs = search needs
+taken-requires : tie.Need-taken-requires
+taken-requires c κs = search needs
+sub-if2 : tie.Need-sub-if2
+sub-if2 c = rw (c .taken .ensures, c .before .wire-length .ensures) (session-short _ (c .before .before .before .before .before .before .before .pre))
+
+returns-2 : tie.Need-returns-2
+returns-2 c = 
+    let w = c .before .before in
+    answer-12 _ _ _ (w .before .if1 .left) _ _ (c .before .taken .ensures) (w .wire-length .ensures) (rw (c .before .taken .ensures, w .wire-length .ensures) (session-short _ (w .before .before .before .before .before .before .pre))) (c .if2 .taken)
+
+returns-3 : tie.Need-returns-3
+returns-3 c = 
+    let w = c .before .before in
+    answer-0 _ _ _ (w .before .if1 .left) _ _ (c .before .taken .ensures) (w .wire-length .ensures) (rw (c .before .taken .ensures, w .wire-length .ensures) (session-short _ (w .before .before .before .before .before .before .pre))) (c .if2 .left)
+
+pub answer-spec : {M : Type 1} → statement M
+answer-spec =
+    tie.close (tie.spec returns wire-length-requires taken-requires sub-if2 returns-2 returns-3)

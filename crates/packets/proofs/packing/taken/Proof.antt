@@ -1,0 +1,22 @@
+use native.Mathlib.Omega.{arith}
+use mathlib.Core.Path.{_∙_}
+use Rattle.packets.proofs.PacketLaws.{session-short, wire-short}
+use borrow.Author.Needs.{needs}
+use Rattle.packets.proofs.packing.taken.Statement.{statement}
+use Rattle.packets.proofs.packing.taken.Tie as tie
+use Rattle.packets.proofs.packing.taken.Reads as reads
+use Rattle.packets.proofs.packing.taken.Lts as lts
+use Rattle.engine.proofs.taken.Reads as taken-reads
+use Rattle.transfer.proofs.receive_rule.Reads as receive-rule-reads
+receive-rule-requires : tie.Need-receive-rule-requires
+receive-rule-requires c κs = search needs
+taken-requires : tie.Need-taken-requires
+taken-requires c κs = 
+    let s = c .before .before .before in
+    rw (c .receive-rule .ensures) (omega (arith, session-short _ (s .pre), wire-short _ (s .pre)))
+
+returns : tie.Need-returns
+returns c = c .taken .ensures ∙ rw (c .before .receive-rule .ensures)
+
+pub taken-spec : {M : Type 1} → statement M
+taken-spec = tie.close (tie.spec receive-rule-requires taken-requires returns)
