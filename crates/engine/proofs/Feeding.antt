@@ -22,6 +22,12 @@ use Rattle.engine.proofs.Units.{by-units, unit-within}
 use Rattle.engine.proofs.Arriving.{reached-begun, reached-arrived}
 use Rattle.engine.proofs.Settling.{reached-settled, bytes-take}
 
+-- bytes joined to others are bytes
+pub bytes-first : (ys zs : List ℕ) → Bytes (ys ++ zs) → Bytes ys
+bytes-first [] zs h i = omega arith
+bytes-first (y ∷ ys) zs h zero = h 0
+bytes-first (y ∷ ys) zs h (suc i) = bytes-first ys zs (λ j. h (suc j)) i
+
 -- Feeding xs and then ys is feeding xs ++ ys.
 pub fed-append : (r : Rule) (p : Progress) (xs ys : List ℕ) → fed r p (xs ++ ys) ≡ fed r (fed r p xs) ys
 unfolding fed
@@ -44,17 +50,12 @@ module _ (r : Rule) (m : Matched r) (slot : Slot) where
   reached-fed xs (x ∷ bytes) b p out R h =
       let e : xs ++ x ∷ bytes ≡ (xs ++ (x ∷ [])) ++ bytes = sym (append-assoc xs (x ∷ []) bytes) in
       let a = reached-arrived r slot xs p out x R h in
-      let s = reached-settled r m slot (xs ++ (x ∷ [])) (bytes-before (xs ++ (x ∷ [])) bytes (rw e at b)) (arrived r p x) (out ++ shown r p x) a in
+      let s = reached-settled r m slot (xs ++ (x ∷ [])) (bytes-first (xs ++ (x ∷ [])) bytes (rw e at b)) (arrived r p x) (out ++ shown r p x) a in
       let q = settled r (arrived r p x) in
       let o : out ++ ((shown r p x ++ placed r (arrived r p x)) ++ emitted r q bytes) ≡ ((out ++ shown r p x) ++ placed r (arrived r p x)) ++ emitted r q bytes =
           sym (append-assoc out (shown r p x ++ placed r (arrived r p x)) (emitted r q bytes))
           ∙ ap (λ (l : List ℕ). l ++ emitted r q bytes) (sym (append-assoc out (shown r p x) (placed r (arrived r p x)))) in
       rw (e, o) (reached-fed (xs ++ (x ∷ [])) bytes (rw e at b) q ((out ++ shown r p x) ++ placed r (arrived r p x)) (s .0) (s .1))
-    where
-      bytes-before : (ys zs : List ℕ) → Bytes (ys ++ zs) → Bytes ys
-      bytes-before [] zs h i = omega arith
-      bytes-before (y ∷ ys) zs h zero = h 0
-      bytes-before (y ∷ ys) zs h (suc i) = bytes-before ys zs (λ j. h (suc j)) i
 
   pub reached-after : (bytes : List ℕ) → Bytes bytes
       → Reached r slot bytes (fed r (begun r slot) bytes) (emitted r (begun r slot) bytes) × (fed r (begun r slot) bytes .input .at < inUnit r)
@@ -64,7 +65,7 @@ module _ (r : Rule) (m : Matched r) (slot : Slot) where
 units-whole : (i n u k : ℕ) → i * u + k ≡ n * u → k < u → i ≡ n
 units-whole i n u k e h = elim (decLt i n) [ yes l ↦ absurd (omega (arith, unit-within i n u l)) | no l ↦ elim (decLt n i) [ yes g ↦ absurd (omega (arith, unit-within n i u g)) | no g ↦ omega arith ] ]
 
-nothing : (l : List ℕ) → length l ≡ 0 → l ≡ []
+pub nothing : (l : List ℕ) → length l ≡ 0 → l ≡ []
 nothing [] e = refl
 nothing (x ∷ l) e = absurd (omega arith)
 

@@ -1,6 +1,7 @@
 // Keys: a layout over one lent memory, two domains, masks, and one error slot; and the answers that 01 numbers.
 mod admission;
 mod configuring;
+mod numbers;
 mod recording;
 mod signing;
 
@@ -8,6 +9,7 @@ pub use admission::admit;
 pub use admission::admit_transfer;
 pub use admission::stream_length;
 pub use configuring::configure;
+pub use numbers::number;
 pub use recording::check;
 pub use recording::keep;
 pub use recording::record;

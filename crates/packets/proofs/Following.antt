@@ -37,7 +37,8 @@ use Rattle.packets.specs.PacketRule.{Call, packetRule, finishRule, Stand
 use Rattle.packets.specs.PacketRule.Call.{packet, finish, abandon}
 use Rattle.packets.specs.Lists.{Made, played, AllBytes}
 use Rattle.packets.specs.Demand3.{Demand3}
-use Rattle.packets.proofs.PacketLaws.{taken-all, bytes-append, packet-told, begun-in-step, some-unit}
+use Rattle.transfer.specs.Transferring.{receiving}
+use Rattle.packets.proofs.PacketLaws.{answer-0, finish-done, taken-all, bytes-append, packet-told, begun-in-step, some-unit}
 use Rattle.packets.proofs.RuleLaws.{sessionAt, lent-length, session-at, written-is, stands-at, totals-at}
 
 -- ---- what a call's answer is, by its outcome
@@ -281,3 +282,26 @@ unfolding played
 played-made s now [] b = made-finish (finishing s .outcome) refl
 played-made s now (bytes ∷ more) b =
     made-packet bytes (b 0) (packing s (length now) bytes .outcome) refl (played-made (packing s (length now) bytes .session) (memoryPacked s now bytes) more (λ i. b (suc i)))
+
+-- ---- a caller that hands over a whole stream packet by packet
+
+module _ (k : Key) (atOpen : List ℕ) (start : LayoutOffset) (count : ℕ) (c : CameFromCalls k) (o : openAnswer k (length atOpen) (start .0) count ≡ Done) (g : Ranged (receiveRule (k .signature)))
+    (came : List ℕ) (b : Bytes came) (h : length came ≤ streamLength (k .signature .wire) count) where
+  -- the session that an accepted packet returns
+  pub next-session : (m : ℕ) → m ≡ k .«memory_length» → (bytes : List ℕ) → length came + length bytes ≤ streamLength (k .signature .wire) count
+      → packing (sessionAt k atOpen start count c o g came) m bytes .session ≡ sessionAt k atOpen start count c o g (came ++ bytes)
+  next-session m e bytes l =
+      let s = sessionAt k atOpen start count c o g came in
+      let t = taken-all s (session-at k atOpen start count c o g came b h) came b h in
+      let a : packetAnswer s m (length bytes) ≡ Done = sym (answer-0 s m (length bytes) e (length came) (streamLength (k .signature .wire) count) (sym t) refl h (omega arith)) in
+      ap (λ (p : Packed). p .session) (packed-done s m bytes a)
+      ∙ ap (λ (p : Progress). record { key = k; start = start; length = count; progress = p }) (sym (fed-append (receiveRule (k .signature)) (begun (receiveRule (k .signature)) Empty) came bytes))
+
+  -- finish once all came: one receive's key
+  pub finish-key : length came ≡ streamLength (k .signature .wire) count
+      → finishing (sessionAt k atOpen start count c o g came) .key ≡ receiving k atOpen came (start .0) count .key
+  finish-key e =
+      let s = sessionAt k atOpen start count c o g came in
+      let t = taken-all s (session-at k atOpen start count c o g came b h) came b h in
+      ap (λ (f : Finished). f .key) (sym (finish-done s (length came) (streamLength (k .signature .wire) count) (sym t) refl (omega arith) (keyOf s) refl))
+      ∙ stands-at k atOpen start count c o g came b h .whole e .1

@@ -9,6 +9,7 @@ use lib.Dec.{eqb, ltb}
 use lib.ListN.{length, take, drop, replicate, length-append, length-replicate}
 use borrow.Author.Tests.{eq-eqb, ne-eqb, lt-ltb, le-ltb, eqb-true, ltb-false}
 use Rattle.guard.specs.Guards.{Bytes}
+use Rattle.layout.specs.declared.offset.LayoutOffset.{LayoutOffset}
 use Rattle.layout.specs.Pieces.{places, total}
 use Rattle.layout.specs.Moves.{scattered}
 use Rattle.layout.proofs.CountLaws.{sound-total}
@@ -22,7 +23,8 @@ use Rattle.field.specs.Tests.{not}
 use Rattle.key.specs.declared.Slot.the-variants.{Empty}
 use Rattle.key.specs.Streams.{streamLength, Measured}
 use Rattle.key.specs.Admitting.{openAnswer, Admitted}
-use Rattle.key.proofs.Laws.{admitted, accepted, data-in-stream}
+use Rattle.key.specs.Keys.{CameFromCalls}
+use Rattle.key.proofs.Laws.{admitted, accepted, data-in-stream, came-record}
 use Rattle.engine.specs.declared.Rule.{Rule}
 use Rattle.engine.specs.declared.Progress.{Progress}
 use Rattle.engine.specs.Streams.{inBlock, inUnit, outUnit}
@@ -37,7 +39,7 @@ use Rattle.transfer.proofs.SendLaws.{stream-double}
 use Rattle.packets.specs.declared.Session.{Session}
 use Rattle.packets.specs.declared.Packed.{Packed}
 use Rattle.packets.specs.declared.Finished.{Finished}
-use Rattle.packets.specs.Sessions.{ruleOf, takenBy, wireLength, SessionFromCalls, keyOf, packetAnswer, further, packedBy, packing, memoryPacked, finishAnswer, finishing}
+use Rattle.packets.specs.Sessions.{ruleOf, takenBy, wireLength, SessionFromCalls, keyOf, packetAnswer, further, packedBy, packing, memoryPacked, finishAnswer, finishing, opening}
 
 pub bytes-append : (xs ys : List ℕ) → Bytes xs → Bytes ys → Bytes (xs ++ ys)
 bytes-append [] ys a b i = b i
@@ -203,3 +205,29 @@ module _ (s : Session) (memory bytes : List ℕ) where
         )
   unfolding packing memoryPacked
   packet-done e q after f = rw (e, f .progress) (refl, f .memory)
+
+-- ---- "came from these calls" is kept
+
+pub came-opened : (k : Key) (n : ℕ) (start : LayoutOffset) (count : ℕ) → CameFromCalls k → Ranged (receiveRule (k .signature)) → openAnswer k n (start .0) count ≡ Done
+    → SessionFromCalls (opening k n start count .session)
+unfolding fed
+came-opened k n start count c g o = record {
+  key = c;
+  opened = rw (admitted k n (start .0) count c o .lent) at o;
+  ranged = g;
+  came = [];
+  bytes = λ i. omega arith;
+  fits = omega arith;
+  progress = refl;
+}
+
+pub came-packed : (s : Session) → SessionFromCalls s → (m : ℕ) (bytes : List ℕ) → Bytes bytes → SessionFromCalls (packing s m bytes .session)
+unfolding packing
+came-packed s f m bytes b = go (packetAnswer s m (length bytes)) refl
+  where
+    go : (o : Outcome) → packetAnswer s m (length bytes) ≡ o → SessionFromCalls (packing s m bytes .session)
+    go Done e = rw e (packet-session s f bytes b (packet-told s m (length bytes) e .1))
+    go (Refused r) e = rw e f
+
+pub came-ended : (s : Session) → SessionFromCalls s → CameFromCalls (keyOf s)
+came-ended s f = came-record (s .key) _ (f .key) (open-told s f .configured)

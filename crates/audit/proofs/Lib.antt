@@ -1,0 +1,7 @@
+pub mod Cases
+pub mod Errors
+pub mod Destination
+pub mod FieldBytes
+pub mod Copying
+pub mod Escape
+pub mod CaseM

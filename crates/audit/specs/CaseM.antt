@@ -1,0 +1,41 @@
+-- Case M (01): A's wire in packets of 0, 9, 0, 7 and 16 bytes, here with a packet in between that is too long, then finish.
+use mathlib.Core.Path.{_≡_}
+use mathlib.Core.List.{List, [], _∷_}
+use Prim.Native.Nat.{ℕ}
+use lib.ListN.{take, drop, replicate}
+use Rattle.key.specs.Numbers.{number}
+use Rattle.packets.specs.declared.Session.{Session}
+use Rattle.packets.specs.Sessions.{opening}
+use Rattle.packets.specs.PacketRule.{Call}
+use Rattle.packets.specs.PacketRule.Call.{packet, finish, abandon}
+use Rattle.packets.specs.Lists.{played}
+use Rattle.audit.specs.Cases.{keyOver, domainA, fieldA, wire}
+
+-- n bytes of A's wire from byte a on
+abbrev pub part : ℕ → ℕ → List ℕ
+part a n = take n (drop a (wire fieldA 0))
+
+abbrev pub packetsM : List (List ℕ)
+packetsM = [] ∷ part 0 9 ∷ part 0 24 ∷ [] ∷ part 9 7 ∷ part 16 16 ∷ []
+
+abbrev pub sessionM : Session
+sessionM = opening (keyOver 16 domainA 0xFF) 16 (record { 0 = 0 }) 16 .session
+
+abbrev pub memoryM : List ℕ
+memoryM = replicate 16 0xAA
+
+-- a call's number and totals
+abbrev pub seen : Call → List ℕ
+seen (packet lent bytes answer after) = number (answer .outcome) ∷ answer .taken ∷ answer .written ∷ []
+seen (finish answer) = number (answer .outcome) ∷ []
+seen (abandon answer) = number (answer .outcome) ∷ []
+
+unfoldable pub all : List Call → List (List ℕ)
+all [] = []
+all (c ∷ cs) = seen c ∷ all cs
+
+-- number, wire bytes taken, memory bytes written; finish's number
+abbrev pub CaseM : Type 0
+CaseM =
+    all (played sessionM memoryM packetsM)
+    ≡ (0 ∷ 0 ∷ 0 ∷ []) ∷ (0 ∷ 9 ∷ 8 ∷ []) ∷ (12 ∷ 0 ∷ 0 ∷ []) ∷ (0 ∷ 9 ∷ 8 ∷ []) ∷ (0 ∷ 16 ∷ 8 ∷ []) ∷ (0 ∷ 32 ∷ 16 ∷ []) ∷ (0 ∷ []) ∷ []
