@@ -6,9 +6,9 @@ use lib.ListN.{take, drop, replicate}
 use Rattle.key.specs.Numbers.{number}
 use Rattle.packets.specs.declared.Session.{Session}
 use Rattle.packets.specs.Sessions.{opening}
-use Rattle.packets.specs.PacketRule.{Call}
+use Rattle.packets.specs.PacketRule.{Call, Follows}
 use Rattle.packets.specs.PacketRule.Call.{packet, finish, abandon}
-use Rattle.packets.specs.Lists.{played}
+use Rattle.packets.specs.Lists.{Made, played}
 use Rattle.audit.specs.Cases.{keyOver, domainA, fieldA, wire}
 
 -- n bytes of A's wire from byte a on
@@ -39,3 +39,7 @@ abbrev pub CaseM : Type 0
 CaseM =
     all (played sessionM memoryM packetsM)
     ≡ (0 ∷ 0 ∷ 0 ∷ []) ∷ (0 ∷ 9 ∷ 8 ∷ []) ∷ (12 ∷ 0 ∷ 0 ∷ []) ∷ (0 ∷ 9 ∷ 8 ∷ []) ∷ (0 ∷ 16 ∷ 8 ∷ []) ∷ (0 ∷ 32 ∷ 16 ∷ []) ∷ (0 ∷ []) ∷ []
+
+-- the list is made, from an accepted open, and follows the packet rule
+abbrev pub CaseMFollows : Type 0
+CaseMFollows = Made sessionM memoryM (played sessionM memoryM packetsM) × Follows (keyOver 16 domainA 0xFF) memoryM 0 16 [] memoryM (played sessionM memoryM packetsM)
