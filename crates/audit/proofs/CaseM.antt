@@ -73,6 +73,8 @@ ranged = record { inSeed = omega arith; outSeed = omega arith; masks = omega ari
 
 pub case-M-follows : CaseMFollows
 case-M-follows =
-    let m = played-made sessionM memoryM packetsM packets-small in
-    (m, packets-follow-the-rule (keyOver 16 domainA 0xFF) memoryM (record { 0 = 0 }) 16 (came-configuring freshKey 16 _ came-fresh) ranged
-    (opening (keyOver 16 domainA 0xFF) 16 (record { 0 = 0 }) 16) refl opens (played sessionM memoryM packetsM) m)
+    let m = played-made sessionM memoryM packetsM packets-small in (
+      m,
+      packets-follow-the-rule (keyOver 16 domainA 0xFF) memoryM (record { 0 = 0 }) 16 (came-configuring freshKey 16 _ came-fresh) ranged
+          (opening (keyOver 16 domainA 0xFF) 16 (record { 0 = 0 }) 16) refl opens (played sessionM memoryM packetsM) m,
+    )

@@ -53,8 +53,8 @@ module _ (r : Rule) (m : Matched r) (slot : Slot) where
       let s = reached-settled r m slot (xs ++ (x ∷ [])) (bytes-first (xs ++ (x ∷ [])) bytes (rw e at b)) (arrived r p x) (out ++ shown r p x) a in
       let q = settled r (arrived r p x) in
       let o : out ++ ((shown r p x ++ placed r (arrived r p x)) ++ emitted r q bytes) ≡ ((out ++ shown r p x) ++ placed r (arrived r p x)) ++ emitted r q bytes =
-          sym (append-assoc out (shown r p x ++ placed r (arrived r p x)) (emitted r q bytes))
-          ∙ ap (λ (l : List ℕ). l ++ emitted r q bytes) (sym (append-assoc out (shown r p x) (placed r (arrived r p x)))) in
+      sym (append-assoc out (shown r p x ++ placed r (arrived r p x)) (emitted r q bytes))
+      ∙ ap (λ (l : List ℕ). l ++ emitted r q bytes) (sym (append-assoc out (shown r p x) (placed r (arrived r p x)))) in
       rw (e, o) (reached-fed (xs ++ (x ∷ [])) bytes (rw e at b) q ((out ++ shown r p x) ++ placed r (arrived r p x)) (s .0) (s .1))
 
   pub reached-after : (bytes : List ℕ) → Bytes bytes
@@ -83,17 +83,24 @@ finished-fed r m slot stream n b e = record {
   where
     p : Progress
     p = fed r (begun r slot) stream
+
     both : Reached r slot stream p (emitted r (begun r slot) stream) × (p .input .at < inUnit r)
     both = reached-after r m slot stream b
+
     R : Reached r slot stream p (emitted r (begun r slot) stream)
     R = both .0
+
     sum : p .input .index * inUnit r + p .input .at ≡ n * inUnit r
     sum = omega (arith, R .behind, R .under, ap length (R .split), length-append (R .past) (R .left))
+
     whole : p .input .index ≡ n
     whole = units-whole (p .input .index) n (inUnit r) (p .input .at) sum (both .1)
+
     none : p .input .at ≡ 0
     none = omega (arith, sum, ap (λ (i : ℕ). i * inUnit r) whole)
+
     over : R .left ≡ []
     over = nothing (R .left) (R .under ∙ none)
+
     past : R .past ≡ stream
     past = sym (append-nil (R .past)) ∙ rw (← over) (sym (R .split))

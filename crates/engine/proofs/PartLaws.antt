@@ -83,9 +83,9 @@ module _ (r : Rule) (take : Progress → List ℕ → Progress) (show : List ℕ
       let n = next p b (suc (length xs)) h in
       let go = fed-go r p b (x ∷ xs) q (one p b (suc (length xs)) h .0) (inside q (length xs) n) in
       let rest = alike q x xs n in
-      let all = more p b (x ∷ xs) (suc (length xs)) h in
-      ( go .0 ∙ rest .0 ∙ ap (settled r) all
-      , go .1 ∙ rw (rest .1, one p b (suc (length xs)) h .1, ← joins b (x ∷ xs), ← all) (sym (append-assoc (show (b ∷ [])) (show (x ∷ xs)) (placed r (take q (x ∷ xs)))))
+      let all = more p b (x ∷ xs) (suc (length xs)) h in (
+        go .0 ∙ rest .0 ∙ ap (settled r) all,
+        go .1 ∙ rw (rest .1, one p b (suc (length xs)) h .1, ← joins b (x ∷ xs), ← all) (sym (append-assoc (show (b ∷ [])) (show (x ∷ xs)) (placed r (take q (x ∷ xs))))),
       )
 
 module _ (r : Rule) where

@@ -5,15 +5,14 @@ mod sides;
 mod stream;
 mod whole;
 
+use field::Domain;
+use guard::Running;
+use key::Slot;
 pub use sides::block_size;
 pub use sides::taken;
 pub use sides::unit_size;
 pub use sides::written;
 pub use stream::feed;
-
-use field::Domain;
-use guard::Running;
-use key::Slot;
 
 // What a transfer goes by. The copy mask is the one in force, given or automatic.
 pub struct Rule {

@@ -4,10 +4,10 @@ ghost use Prim.Native.Nat.{_+_, _≤_, _^_};
 ghost use lib.ListN.{length};
 ghost use lib.Seq.{sets};
 ghost use Rattle.engine.specs.Parts.{dataTaken, fieldTaken, Holds};
-use crate::sides;
 use crate::Progress;
 use crate::Rule;
 use crate::Side;
+use crate::sides;
 
 // The progress with some of the block's data more.
 pub(crate) fn take_data(rule: Rule, p: Progress, part: &[u8]) -> Progress
@@ -63,4 +63,3 @@ fn hold(held: [u8; 8], from: usize, part: &[u8]) -> [u8; 8]
     }
     all
 }
-

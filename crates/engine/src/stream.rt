@@ -5,14 +5,14 @@ ghost use lib.ListN.{length};
 ghost use Rattle.engine.specs.Streams.{inUnit};
 ghost use Rattle.engine.specs.Feeding.{emitted};
 ghost use Rattle.engine.specs.Parts.{OnePart, Bare, InStep, Room, Fed};
+use crate::Progress;
+use crate::Rule;
 use crate::parts;
 use crate::sides;
 use crate::sides::block_size;
 use crate::sides::unit_size;
 use crate::sides::written;
 use crate::whole;
-use crate::Progress;
-use crate::Rule;
 use layout::Layout;
 use layout::LayoutOffset;
 
@@ -37,7 +37,14 @@ fn lesser(a: u64, b: usize) -> usize
 }
 
 // Feeds a part that is all of one block's data or all of one field: data is placed at once, a field held, and a whole unit settled.
-fn feed_part(rule: Rule, p: Progress, l: Layout, memory: &mut [u8], start: LayoutOffset, part: &[u8]) -> Progress
+fn feed_part(
+    rule: Rule,
+    p: Progress,
+    l: Layout,
+    memory: &mut [u8],
+    start: LayoutOffset,
+    part: &[u8],
+) -> Progress
     requires { ⌜ InStep rule p ⌝ }
     requires { ⌜ (OnePart rule p (length (now part))) × (0 < length (now part)) × (Room rule p l (length (now memory)) (start .0) (length (emitted rule p (now part)))) ⌝ }
     ensures { λ r. ⌜ Fed rule p l (start .0) (now (memory .entry)) (now (part .entry)) r (now (memory .exit)) ⌝ }
@@ -51,7 +58,14 @@ fn feed_part(rule: Rule, p: Progress, l: Layout, memory: &mut [u8], start: Layou
 }
 
 // Feeds bytes part by part.
-fn feed_parts(rule: Rule, p: Progress, l: Layout, memory: &mut [u8], start: LayoutOffset, bytes: &[u8]) -> Progress
+fn feed_parts(
+    rule: Rule,
+    p: Progress,
+    l: Layout,
+    memory: &mut [u8],
+    start: LayoutOffset,
+    bytes: &[u8],
+) -> Progress
     requires { ⌜ (InStep rule p) × (p .input .at < inUnit rule) ⌝ }
     requires { ⌜ Room rule p l (length (now memory)) (start .0) (length (emitted rule p (now bytes))) ⌝ }
     ensures { λ r. ⌜ Fed rule p l (start .0) (now (memory .entry)) (now (bytes .entry)) r (now (memory .exit)) ⌝ }
@@ -67,7 +81,14 @@ fn feed_parts(rule: Rule, p: Progress, l: Layout, memory: &mut [u8], start: Layo
 }
 
 // Feeds bytes where neither side is signed: each byte is a unit, and all go at once.
-fn feed_bare(rule: Rule, p: Progress, l: Layout, memory: &mut [u8], start: LayoutOffset, bytes: &[u8]) -> Progress
+fn feed_bare(
+    rule: Rule,
+    p: Progress,
+    l: Layout,
+    memory: &mut [u8],
+    start: LayoutOffset,
+    bytes: &[u8],
+) -> Progress
     requires { ⌜ (InStep rule p) × (p .input .at < inUnit rule) × (Bare rule) ⌝ }
     requires { ⌜ Room rule p l (length (now memory)) (start .0) (length (emitted rule p (now bytes))) ⌝ }
     ensures { λ r. ⌜ Fed rule p l (start .0) (now (memory .entry)) (now (bytes .entry)) r (now (memory .exit)) ⌝ }
@@ -89,7 +110,14 @@ fn feed_bare(rule: Rule, p: Progress, l: Layout, memory: &mut [u8], start: Layou
 }
 
 // Feeds bytes of the input stream, which may end anywhere, and places what becomes known of the output stream from layout byte start on.
-pub fn feed(rule: Rule, p: Progress, l: Layout, memory: &mut [u8], start: LayoutOffset, bytes: &[u8]) -> Progress
+pub fn feed(
+    rule: Rule,
+    p: Progress,
+    l: Layout,
+    memory: &mut [u8],
+    start: LayoutOffset,
+    bytes: &[u8],
+) -> Progress
     requires { ⌜ (InStep rule p) × (p .input .at < inUnit rule) ⌝ }
     requires { ⌜ Room rule p l (length (now memory)) (start .0) (length (emitted rule p (now bytes))) ⌝ }
     ensures { λ r. ⌜ Fed rule p l (start .0) (now (memory .entry)) (now (bytes .entry)) r (now (memory .exit)) ⌝ }

@@ -9,11 +9,11 @@ ghost use Rattle.engine.specs.Feeding.{fieldMade, fieldDue, nextUnit, pl
 ghost use Rattle.engine.specs.Feeding as feeding;
 ghost use Rattle.engine.specs.Parts.{Countable, InStep, Room, Settled};
 ghost use Rattle.engine.specs.Parts as parts;
+use crate::Progress;
+use crate::Rule;
 use crate::sides;
 use crate::sides::unit_size;
 use crate::sides::written;
-use crate::Progress;
-use crate::Rule;
 use field::Judgement;
 use key::Error;
 use key::Slot;
@@ -40,7 +40,13 @@ fn error_due(rule: Rule, p: Progress) -> Slot
         let held = p.held;
         let input = p.input;
         let guard = guard::finish(rule.input.guard_type, input.guard);
-        let judgement = field::judge(rule.input, rule.check_mask, input.index, guard, field::decode(held));
+        let judgement = field::judge(
+            rule.input,
+            rule.check_mask,
+            input.index,
+            guard,
+            field::decode(held),
+        );
         found(judgement, input.index * unit_size(rule.input, rule.output))
     } else {
         Slot::Empty
@@ -96,7 +102,13 @@ fn place(rule: Rule, p: Progress, l: Layout, memory: &mut [u8], start: LayoutOff
 }
 
 // A whole unit is judged, its output field placed, and the next begun.
-pub(crate) fn settle(rule: Rule, p: Progress, l: Layout, memory: &mut [u8], start: LayoutOffset) -> Progress
+pub(crate) fn settle(
+    rule: Rule,
+    p: Progress,
+    l: Layout,
+    memory: &mut [u8],
+    start: LayoutOffset,
+) -> Progress
     requires { ⌜ InStep rule p ⌝ }
     requires { ⌜ Room rule p l (length (now memory)) (start .0) (length (placed rule p)) ⌝ }
     ensures { λ r. ⌜ Settled rule p l (start .0) (now (memory .entry)) r (now (memory .exit)) ⌝ }

@@ -5,13 +5,13 @@ ghost use lib.Dec.{eqb};
 ghost use Rattle.field.specs.Tests.{and, not, bit};
 ghost use Rattle.field.specs.Judging as judging;
 ghost use Rattle.field.specs.Judging.{digit, judged};
-use crate::bytes::lower;
-use crate::bytes::upper;
 use crate::Domain;
 use crate::Judgement;
 use crate::Mismatch;
 use crate::Part;
 use crate::ProtectionField;
+use crate::bytes::lower;
+use crate::bytes::upper;
 
 // The block's guard is not to be checked. The field is read whole, whatever the check mask.
 pub fn escaped(d: Domain, found: ProtectionField) -> bool
@@ -34,10 +34,30 @@ pub fn escaped(d: Domain, found: ProtectionField) -> bool
 pub fn differing(mask: u8, found: ProtectionField, right: ProtectionField) -> u8
     ensures { λ r. ⌜ r ≡ judging.differing mask found right ⌝ }
 {
-    let guard = pair(mask / 128 % 2 == 1, mask / 64 % 2 == 1, found.guard, right.guard);
-    let application = pair(mask / 32 % 2 == 1, mask / 16 % 2 == 1, found.application, right.application);
-    let high = pair(mask / 8 % 2 == 1, mask / 4 % 2 == 1, upper(found.reference), upper(right.reference));
-    let low = pair(mask / 2 % 2 == 1, mask / 1 % 2 == 1, lower(found.reference), lower(right.reference));
+    let guard = pair(
+        mask / 128 % 2 == 1,
+        mask / 64 % 2 == 1,
+        found.guard,
+        right.guard,
+    );
+    let application = pair(
+        mask / 32 % 2 == 1,
+        mask / 16 % 2 == 1,
+        found.application,
+        right.application,
+    );
+    let high = pair(
+        mask / 8 % 2 == 1,
+        mask / 4 % 2 == 1,
+        upper(found.reference),
+        upper(right.reference),
+    );
+    let low = pair(
+        mask / 2 % 2 == 1,
+        mask / 1 % 2 == 1,
+        lower(found.reference),
+        lower(right.reference),
+    );
     guard * 64 + application * 16 + high * 4 + low
 }
 
@@ -63,7 +83,11 @@ pub fn judge(d: Domain, check_mask: u8, i: u64, guard: u16, found: ProtectionFie
     ensures { λ r. ⌜ r ≡ judged d «check_mask» i guard found ⌝ }
 {
     let right = crate::given(d, i, guard);
-    first_bad(differing(checked(d, check_mask, found), found, right), right, found)
+    first_bad(
+        differing(checked(d, check_mask, found), found, right),
+        right,
+        found,
+    )
 }
 
 fn checked(d: Domain, mask: u8, found: ProtectionField) -> u8

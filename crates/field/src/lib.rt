@@ -10,7 +10,6 @@ pub use judging::escaped;
 pub use judging::judge;
 pub use making::copy_mask;
 pub use making::output;
-
 ghost use mathlib.Core.Path.{_≡_};
 ghost use Rattle.field.specs.Domains as domains;
 ghost use Rattle.field.specs.Fields as fields;

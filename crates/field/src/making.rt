@@ -4,11 +4,11 @@ ghost use Prim.Native.Nat.{_+_, _*_, _/_, _%_, _≤_, _<_};
 ghost use Rattle.field.specs.Tests.{and, same, pick};
 ghost use Rattle.field.specs.Fields.{twoBytes};
 ghost use Rattle.field.specs.Output.{agreed, copyMask, outputField};
+use crate::Domain;
+use crate::ProtectionField;
 use crate::bytes::four;
 use crate::bytes::lower;
 use crate::bytes::upper;
-use crate::Domain;
-use crate::ProtectionField;
 
 // Which bytes of the output field are copied from the input field: the given mask, or what agrees.
 pub fn copy_mask(attribute_flags: u32, mask: u8, input: Domain, output: Domain) -> u8
@@ -57,11 +57,31 @@ fn alike(x: bool, y: bool) -> bool
 pub fn output(mask: u8, copied: ProtectionField, generated: ProtectionField) -> ProtectionField
     ensures { λ r. ⌜ r ≡ outputField mask copied generated ⌝ }
 {
-    let high = pair(mask / 8 % 2 == 1, mask / 4 % 2 == 1, upper(copied.reference), upper(generated.reference));
-    let low = pair(mask / 2 % 2 == 1, mask / 1 % 2 == 1, lower(copied.reference), lower(generated.reference));
+    let high = pair(
+        mask / 8 % 2 == 1,
+        mask / 4 % 2 == 1,
+        upper(copied.reference),
+        upper(generated.reference),
+    );
+    let low = pair(
+        mask / 2 % 2 == 1,
+        mask / 1 % 2 == 1,
+        lower(copied.reference),
+        lower(generated.reference),
+    );
     ProtectionField {
-        guard: pair(mask / 128 % 2 == 1, mask / 64 % 2 == 1, copied.guard, generated.guard),
-        application: pair(mask / 32 % 2 == 1, mask / 16 % 2 == 1, copied.application, generated.application),
+        guard: pair(
+            mask / 128 % 2 == 1,
+            mask / 64 % 2 == 1,
+            copied.guard,
+            generated.guard,
+        ),
+        application: pair(
+            mask / 32 % 2 == 1,
+            mask / 16 % 2 == 1,
+            copied.application,
+            generated.application,
+        ),
         reference: four(high, low),
     }
 }
@@ -70,7 +90,8 @@ pub fn output(mask: u8, copied: ProtectionField, generated: ProtectionField) -> 
 fn pair(high: bool, low: bool, copied: u16, generated: u16) -> u16
     ensures { λ r. ⌜ r ≡ twoBytes (pick high (copied / 256) (generated / 256)) (pick low (copied % 256) (generated % 256)) ⌝ }
 {
-    chosen_byte(high, copied / 256, generated / 256) * 256 + chosen_byte(low, copied % 256, generated % 256)
+    chosen_byte(high, copied / 256, generated / 256) * 256
+        + chosen_byte(low, copied % 256, generated % 256)
 }
 
 fn chosen_byte(first: bool, x: u16, y: u16) -> u16

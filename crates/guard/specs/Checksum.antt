@@ -4,7 +4,6 @@ use mathlib.Core.List.{List, [], _∷_}
 use Prim.Native.Nat.{ℕ, zero, suc, _+_, _-_, _*_, _/_, _%_}
 
 infixl 65 _⊕_
-
 -- The ones' complement sum of two 16-bit numbers: the carry out of the sum is brought round and added.
 unfoldable pub _⊕_ : ℕ → ℕ → ℕ
 a ⊕ b = (a + b) % 65536 + (a + b) / 65536

@@ -9,6 +9,7 @@ ghost use Rattle.guard.specs.Guards.{started, advanced, finished};
 
 // 01's guard types. Configure lets no other number through; here each above 0 is a checksum.
 pub const CRC: u32 = 0;
+
 pub const CHECKSUM: u32 = 1;
 
 // A guard under way: the CRC register, or the ones' complement sum so far, and whether an odd number of bytes went into that.

@@ -27,6 +27,7 @@ pigeonhole (suc n) (suc m) f b d = suc-le-suc (pigeonhole n m (λ i. other (eqb 
   where
     last : (i : ℕ) → i < m → f i ≡ f m → ⊥
     last i h e = let z : i ≡ m = d i m (omega arith) (omega arith) e in omega arith
+
     below : (i : ℕ) → i < m → (t : Bool) → eqb (f i) n ≡ t → other t (f m) (f i) < n
     below i h true e =
         let z : f i ≡ n = eqb-true (f i) n e in
@@ -35,6 +36,7 @@ pigeonhole (suc n) (suc m) f b d = suc-le-suc (pigeonhole n m (λ i. other (eqb 
     below i h false e =
         let z : f i ≡ n → ⊥ = eqb-false (f i) n e in
         omega (arith, b i (omega arith), z)
+
     differ : (i j : ℕ) → i < m → j < m → (t u : Bool) → eqb (f i) n ≡ t → eqb (f j) n ≡ u → other t (f m) (f i) ≡ other u (f m) (f j) → i ≡ j
     differ i j h k true true e q z = d i j (omega arith) (omega arith) (eqb-true (f i) n e ∙ sym (eqb-true (f j) n q))
     differ i j h k true false e q z = absurd (last j k (sym z))

@@ -174,7 +174,7 @@ module _ (k : Key) (atOpen : List ℕ) (start : LayoutOffset) (count : ℕ) (c :
         let told = packet-told (at came) (length (shown came)) (length bytes) e in
         let l : length came + length bytes ≤ streamLength (k .signature .wire) count = omega (arith, told .1, taken-all (at came) from-calls came b h) in
         let f : fed (receiveRule (k .signature)) (fed (receiveRule (k .signature)) (begun (receiveRule (k .signature)) Empty) came) bytes ≡ fed (receiveRule (k .signature)) (begun (receiveRule (k .signature)) Empty) (came ++ bytes) =
-            sym (fed-append (receiveRule (k .signature)) (begun (receiveRule (k .signature)) Empty) came bytes) in
+        sym (fed-append (receiveRule (k .signature)) (begun (receiveRule (k .signature)) Empty) came bytes) in
         let a = ea ∙ packed-done (at came) (length (shown came)) bytes e in
         let m = em ∙ (memory-done (at came) (shown came) bytes e ∙ memory-next bytes d l) in
         record {
@@ -199,17 +199,17 @@ module _ (k : Key) (atOpen : List ℕ) (start : LayoutOffset) (count : ℕ) (c :
       refused-call lent bytes answer after r ea em eo =
           let ea′ = rw es at ea in
           let e : packetAnswer (at came) (length lent) (length bytes) ≡ Refused r = sym (packing-outcome (at came) (length lent) bytes) ∙ (ap (λ (p : Packed). p .outcome) (sym ea′) ∙ eo) in
-          let a = ea′ ∙ packed-refused (at came) (length lent) bytes r e in
-          ( sym (packet-ruled (length lent) (length bytes)) ∙ e
-          , record {
-            outcome = eo;
-            taken = ap (λ (p : Packed). p .taken) a;
-            written = ap (λ (p : Packed). p .written) a;
-            untouched = em ∙ (rw es (memory-refused (at came) lent bytes r e));
-            stands = rw (a, en) stands;
-            session = rw a from-calls;
-          }
-          , ap (λ (p : Packed). p .session) a
+          let a = ea′ ∙ packed-refused (at came) (length lent) bytes r e in (
+            sym (packet-ruled (length lent) (length bytes)) ∙ e,
+            record {
+              outcome = eo;
+              taken = ap (λ (p : Packed). p .taken) a;
+              written = ap (λ (p : Packed). p .written) a;
+              untouched = em ∙ (rw es (memory-refused (at came) lent bytes r e));
+              stands = rw (a, en) stands;
+              session = rw a from-calls;
+            },
+            ap (λ (p : Packed). p .session) a,
           )
 
       finish-told : (answer : Finished) → answer ≡ finishing s → (answer ≡ finishing (at came)) × (answer .outcome ≡ finishRule k atOpen (start .0) count came)

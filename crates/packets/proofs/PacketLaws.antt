@@ -192,17 +192,17 @@ packet-told s m n e = go (eqb m (s .key .«memory_length»)) (ltb (wireLength s)
 
 module _ (s : Session) (memory bytes : List ℕ) where
   pub packet-refused : (o : Outcome) (r : Refusal) → o ≡ packetAnswer s (length memory) (length bytes) → o ≡ Refused r
-      → ( _≡_ {A = Packed} (record { outcome = o; taken = 0; written = 0; session = s }) (packing s (length memory) bytes)
-        × (memory ≡ memoryPacked s memory bytes)
-        )
+      → (_≡_ {A = Packed} (record { outcome = o; taken = 0; written = 0; session = s }) (packing s (length memory) bytes)
+      × (memory ≡ memoryPacked s memory bytes)
+      )
   unfolding packing memoryPacked
   packet-refused o r a e = rw (← a, e) (refl, refl)
 
   pub packet-done : packetAnswer s (length memory) (length bytes) ≡ Done → (q : Progress) (after : List ℕ)
       → Fed (ruleOf s) (s .progress) (s .key .layout) (s .start .0) memory bytes q after
-      → ( _≡_ {A = Packed} (record { outcome = Done; taken = taken (ruleOf s) q; written = written (ruleOf s) q; session = further s q }) (packing s (length memory) bytes)
-        × (after ≡ memoryPacked s memory bytes)
-        )
+      → (_≡_ {A = Packed} (record { outcome = Done; taken = taken (ruleOf s) q; written = written (ruleOf s) q; session = further s q }) (packing s (length memory) bytes)
+      × (after ≡ memoryPacked s memory bytes)
+      )
   unfolding packing memoryPacked
   packet-done e q after f = rw (e, f .progress) (refl, f .memory)
 

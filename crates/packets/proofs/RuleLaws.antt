@@ -117,9 +117,9 @@ module _ (k : Key) (atOpen : List ℕ) (start : LayoutOffset) (count : ℕ) (c :
       memory = λ rest d e. ap (scattered atOpen (drop (start .0) (places (k .layout)))) (shown-is rest d e);
       error = λ rest d e. ap (keep (k .slot)) (error-is rest);
       whole = λ e.
-        let w : Whole (receiveRule (k .signature)) came count (streamLength (k .signature .memory) count) = rw (append-nil came) at (all [] (λ i. omega arith) (ap length (append-nil came) ∙ e)) in
-        let t : take (streamLength (k .signature .wire) count) came ≡ came = take-all (streamLength (k .signature .wire) count) came (omega arith) in
-        rw (answer-done (omega arith), t) (ap (scattered atOpen (drop (start .0) (places (k .layout)))) (w .shown), ap (λ (s : Slot). withSlot k (keep (k .slot) s)) (w .error));
+          let w : Whole (receiveRule (k .signature)) came count (streamLength (k .signature .memory) count) = rw (append-nil came) at (all [] (λ i. omega arith) (ap length (append-nil came) ∙ e)) in
+          let t : take (streamLength (k .signature .wire) count) came ≡ came = take-all (streamLength (k .signature .wire) count) came (omega arith) in
+          rw (answer-done (omega arith), t) (ap (scattered atOpen (drop (start .0) (places (k .layout)))) (w .shown), ap (λ (s : Slot). withSlot k (keep (k .slot) s)) (w .error));
     }
 
     -- one receive's totals

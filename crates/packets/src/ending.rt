@@ -2,10 +2,11 @@
 ghost use mathlib.Core.Path.{_≡_};
 ghost use Rattle.packets.specs.Sessions as sessions;
 ghost use Rattle.packets.specs.Sessions.{SessionFromCalls};
-use crate::packing::{taken, wire_length};
 use crate::Abandoned;
 use crate::Finished;
 use crate::Session;
+use crate::packing::taken;
+use crate::packing::wire_length;
 use key::Key;
 use key::Outcome;
 use key::Refusal;

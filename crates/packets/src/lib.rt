@@ -5,13 +5,12 @@ mod packing;
 
 pub use ending::abandon;
 pub use ending::finish;
-pub use opening::open;
-pub use packing::packet;
-
 use engine::Progress;
 use key::Key;
 use key::Outcome;
 use layout::LayoutOffset;
+pub use opening::open;
+pub use packing::packet;
 
 // A received transfer under way: what open was given, and how far it is.
 pub struct Session {

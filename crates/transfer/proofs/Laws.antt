@@ -92,8 +92,10 @@ module _ (a b : Domain) (count : ℕ) (g : Agree a b count) where
     where
       blocks : count / blockSize a b * blockSize a b ≡ count
       blocks = whole-blocks count (blockSize a b) (bounds .2)
+
       own-size : signed a ≡ true → blockSize a b ≡ a .«block_size»
       own-size e = unfold blockSize in rw e
+
       go : (s : Bool) → signed a ≡ s → streamLength a count ≡ count / blockSize a b * unitSize a b
       go true e =
           let s : streamLength a count ≡ count + count / blockSize a b * 8 = (rw e) ∙ ap (λ (n : ℕ). count + count / n * 8) (sym (own-size e)) in
@@ -183,27 +185,27 @@ module _ (k : Key) (memory wire : List ℕ) (x count : ℕ) (c : CameFromCalls k
   -- what feeding the wire's stream asks
   pub receive-asks : (InStep (receiveRule (k .signature)) (begun (receiveRule (k .signature)) Empty) × (0 < inUnit (receiveRule (k .signature))))
       × Room (receiveRule (k .signature)) (begun (receiveRule (k .signature)) Empty) (k .layout) (length memory) x
-        (length (emitted (receiveRule (k .signature)) (begun (receiveRule (k .signature)) Empty) (wireStream k wire count)))
+      (length (emitted (receiveRule (k .signature)) (begun (receiveRule (k .signature)) Empty) (wireStream k wire count)))
   receive-asks =
-      let a = receive-accepted .admitted in
-      ( (receive-whole .inStep, receive-whole .some)
-      , record {
-        placed = a .placed;
-        fits = omega (arith, receive-whole .size, a .inside, zero-mul (outUnit (receiveRule (k .signature))));
-        small = omega (arith, receive-accepted .small, a .limit);
-      }
+      let a = receive-accepted .admitted in (
+        (receive-whole .inStep, receive-whole .some),
+        record {
+          placed = a .placed;
+          fits = omega (arith, receive-whole .size, a .inside, zero-mul (outUnit (receiveRule (k .signature))));
+          small = omega (arith, receive-accepted .small, a .limit);
+        },
       )
 
   -- what it gives
   pub receive-gives : (q : Progress) (after : List ℕ) → Fed (receiveRule (k .signature)) (begun (receiveRule (k .signature)) Empty) (k .layout) x memory (wireStream k wire count) q after
-      → ( _≡_ {A = Transferred} (record {
-            outcome = Done;
-            taken = streamLength (k .signature .wire) count;
-            written = streamLength (k .signature .memory) count;
-            key = withSlot k (keep (k .slot) (q .slot));
-          }) (receiving k memory wire x count)
-        × (after ≡ memoryReceived k memory wire x count)
-        )
+      → (_≡_ {A = Transferred} (record {
+        outcome = Done;
+        taken = streamLength (k .signature .wire) count;
+        written = streamLength (k .signature .memory) count;
+        key = withSlot k (keep (k .slot) (q .slot));
+      }) (receiving k memory wire x count)
+      × (after ≡ memoryReceived k memory wire x count)
+      )
   unfolding receiving memoryReceived
   receive-gives q after f =
       let s : q .slot ≡ errorIn (receiveRule (k .signature)) (wireStream k wire count) count = ap (λ (p : Progress). p .slot) (f .progress) ∙ receive-whole .error in
@@ -212,8 +214,8 @@ module _ (k : Key) (memory wire : List ℕ) (x count : ℕ) (c : CameFromCalls k
 
 -- a refused call
 pub receive-refused : (k : Key) (memory wire : List ℕ) (x count : ℕ) (o : Outcome) (r : Refusal) → o ≡ answerOf k memory wire x count → o ≡ Refused r
-    → ( _≡_ {A = Transferred} (record { outcome = o; taken = 0; written = 0; key = k }) (receiving k memory wire x count)
-      × (memory ≡ memoryReceived k memory wire x count)
-      )
+    → (_≡_ {A = Transferred} (record { outcome = o; taken = 0; written = 0; key = k }) (receiving k memory wire x count)
+    × (memory ≡ memoryReceived k memory wire x count)
+    )
 unfolding receiving memoryReceived
 receive-refused k memory wire x count o r a e = rw (← a, e) (refl, refl)

@@ -111,7 +111,7 @@ module _ (r : Rule) (l : Layout) (memory : List ℕ) (x n : ℕ) (to : Layout) (
       → Drawn r l memory x n to before (q .slot) after
   draw-end q after d e g =
       let all : length (drop d (layoutBytes l memory x n)) ≡ 0 =
-          length-drop d (layoutBytes l memory x n) ∙ rw (length-gathered memory (take n (drop x (places l))), length-take n (drop x (places l))) (omega (arith, e)) in
+      length-drop d (layoutBytes l memory x n) ∙ rw (length-gathered memory (take n (drop x (places l))), length-take n (drop x (places l))) (omega (arith, e)) in
       let f = going-end r (begun r Empty) to 0 before (layoutBytes l memory x n) q after (drop d (layoutBytes l memory x n)) g all in
       let z : 0 + written r (begun r Empty) ≡ 0 = omega (arith, zero-mul (outUnit r)) in
       record { error = ap (λ (p : Progress). p .slot) (f .progress); wire = f .memory ∙ rw z }
@@ -176,27 +176,27 @@ module _ (k : Key) (memory wire : List ℕ) (x count : ℕ) (c : CameFromCalls k
 
   pub send-gives : (error : Slot) (after : List ℕ)
       → Drawn (sendRule (k .signature)) (k .layout) memory x (streamLength (k .signature .memory) count) (onePiece (streamLength (k .signature .wire) count)) wire error after
-      → ( _≡_ {A = Transferred} (record {
-            outcome = Done;
-            taken = streamLength (k .signature .memory) count;
-            written = streamLength (k .signature .wire) count;
-            key = withSlot k (keep (k .slot) error);
-          }) (sending k memory wire x count)
-        × (after ≡ wireSent k memory wire x count)
-        )
+      → (_≡_ {A = Transferred} (record {
+        outcome = Done;
+        taken = streamLength (k .signature .memory) count;
+        written = streamLength (k .signature .wire) count;
+        key = withSlot k (keep (k .slot) error);
+      }) (sending k memory wire x count)
+      × (after ≡ wireSent k memory wire x count)
+      )
   unfolding sending wireSent
   send-gives error after d =
       let out = outputOf (sendRule (k .signature)) (memoryStream k memory x count) count in
       let n : length out ≡ streamLength (k .signature .wire) count = ap length (sym (send-whole .shown)) ∙ send-whole .size in
       let w : after ≡ out ++ drop (streamLength (k .signature .wire) count) wire =
-          d .wire ∙ rw (send-whole .shown, one-places (onePiece (streamLength (k .signature .wire) count)) _ _ refl refl refl)
-          (scattered-from wire out 0 (streamLength (k .signature .wire) count) (omega (arith, n)) ∙ sets-eq out wire 0 (omega (arith, n, send-accepted .wire)) ∙ rw (zero-add (length out), n)) in
+      d .wire ∙ rw (send-whole .shown, one-places (onePiece (streamLength (k .signature .wire) count)) _ _ refl refl refl)
+      (scattered-from wire out 0 (streamLength (k .signature .wire) count) (omega (arith, n)) ∙ sets-eq out wire 0 (omega (arith, n, send-accepted .wire)) ∙ rw (zero-add (length out), n)) in
       rw e (ap (λ (s : Slot). answered Done k (streamLength (k .signature .memory) count) (streamLength (k .signature .wire) count) s) (d .error ∙ send-whole .error), w)
 
 -- a refused send
 pub send-refused : (k : Key) (memory wire : List ℕ) (x count : ℕ) (o : Outcome) (r : Refusal) → o ≡ answerOf k memory wire x count → o ≡ Refused r
-    → ( _≡_ {A = Transferred} (record { outcome = o; taken = 0; written = 0; key = k }) (sending k memory wire x count)
-      × (wire ≡ wireSent k memory wire x count)
-      )
+    → (_≡_ {A = Transferred} (record { outcome = o; taken = 0; written = 0; key = k }) (sending k memory wire x count)
+    × (wire ≡ wireSent k memory wire x count)
+    )
 unfolding sending wireSent
 send-refused k memory wire x count o r a e = rw (← a, e) (refl, refl)

@@ -3,13 +3,12 @@ mod receiving;
 mod rules;
 mod sending;
 
+use key::Key;
+use key::Outcome;
 pub use receiving::receive;
 pub use rules::receive_rule;
 pub use rules::send_rule;
 pub use sending::send;
-
-use key::Key;
-use key::Outcome;
 
 // A transfer's number, the bytes of the input stream taken and of the output stream written, and the key.
 pub struct Transferred {

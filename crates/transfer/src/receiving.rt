@@ -2,15 +2,21 @@
 ghost use mathlib.Core.Path.{_≡_};
 ghost use Rattle.key.specs.Keys.{CameFromCalls};
 ghost use Rattle.transfer.specs.Transferring as transferring;
-use crate::rules;
 use crate::Transferred;
+use crate::rules;
 use key::Key;
 use key::Outcome;
 use key::Slot;
 use layout::LayoutOffset;
 
 // The wire's stream checked and put in its places in memory.
-pub fn receive(key: Key, memory: &mut [u8], wire: &[u8], offset: LayoutOffset, data_length: u64) -> Transferred
+pub fn receive(
+    key: Key,
+    memory: &mut [u8],
+    wire: &[u8],
+    offset: LayoutOffset,
+    data_length: u64,
+) -> Transferred
     requires { ⌜ CameFromCalls key ⌝ }
     ensures { λ r. ⌜ r ≡ transferring.receiving key (now (memory .entry)) (now (wire .entry)) (offset .0) «data_length» ⌝ }
     ensures { λ _. ⌜ now (memory .exit) ≡ transferring.memoryReceived key (now (memory .entry)) (now (wire .entry)) (offset .0) «data_length» ⌝ }
@@ -30,7 +36,14 @@ pub fn receive(key: Key, memory: &mut [u8], wire: &[u8], offset: LayoutOffset, d
     rules::ranged(rule);
     let taken = key::stream_length(signature.wire, data_length);
     let n = taken as usize;
-    let p = engine::feed(rule, engine::begin(rule, Slot::Empty), layout, memory, offset, &wire[0..n]);
+    let p = engine::feed(
+        rule,
+        engine::begin(rule, Slot::Empty),
+        layout,
+        memory,
+        offset,
+        &wire[0..n],
+    );
     let slot = p.slot;
     Transferred {
         outcome: Outcome::Done,

@@ -35,5 +35,4 @@ pub fn receive_rule(s: Signature) -> Rule
 // What the types say of a rule's numbers.
 pub(crate) fn ranged(rule: Rule)
     ensures { λ _. ⌜ rules.Ranged rule ⌝ }
-{
-}
+{}

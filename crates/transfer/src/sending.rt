@@ -5,8 +5,8 @@ ghost use lib.ListN.{length, take, drop};
 ghost use Rattle.key.specs.Keys.{CameFromCalls};
 ghost use Rattle.transfer.specs.Transferring as transferring;
 ghost use Rattle.transfer.specs.Sending.{onePiece, Drawable, Drawn};
-use crate::rules;
 use crate::Transferred;
+use crate::rules;
 use engine::Rule;
 use key::Key;
 use key::Outcome;
@@ -41,7 +41,15 @@ fn lesser(a: usize, b: u64) -> usize
 }
 
 // Feeds n layout bytes from the offset on, run by run, and places what comes out in the wire's first bytes. Answers the first error.
-fn draw(rule: Rule, from: Layout, memory: &[u8], offset: LayoutOffset, n: u64, to: Layout, wire: &mut [u8]) -> Slot
+fn draw(
+    rule: Rule,
+    from: Layout,
+    memory: &[u8],
+    offset: LayoutOffset,
+    n: u64,
+    to: Layout,
+    wire: &mut [u8],
+) -> Slot
     requires { ⌜ Drawable rule from (now memory) (offset .0) n to (length (now wire)) ⌝ }
     ensures { λ r. ⌜ Drawn rule from (now (memory .entry)) (offset .0) n to (now (wire .entry)) r (now (wire .exit)) ⌝ }
 {
@@ -57,7 +65,13 @@ fn draw(rule: Rule, from: Layout, memory: &[u8], offset: LayoutOffset, n: u64, t
 }
 
 // Memory's stream checked and put on the wire.
-pub fn send(key: Key, memory: &[u8], wire: &mut [u8], offset: LayoutOffset, data_length: u64) -> Transferred
+pub fn send(
+    key: Key,
+    memory: &[u8],
+    wire: &mut [u8],
+    offset: LayoutOffset,
+    data_length: u64,
+) -> Transferred
     requires { ⌜ CameFromCalls key ⌝ }
     ensures { λ r. ⌜ r ≡ transferring.sending key (now (memory .entry)) (now (wire .entry)) (offset .0) «data_length» ⌝ }
     ensures { λ _. ⌜ now (wire .exit) ≡ transferring.wireSent key (now (memory .entry)) (now (wire .entry)) (offset .0) «data_length» ⌝ }
@@ -77,7 +91,15 @@ pub fn send(key: Key, memory: &[u8], wire: &mut [u8], offset: LayoutOffset, data
     rules::ranged(rule);
     let taken = key::stream_length(signature.memory, data_length);
     let written = key::stream_length(signature.wire, data_length);
-    let slot = draw(rule, from, memory, offset, taken, first_bytes(written), wire);
+    let slot = draw(
+        rule,
+        from,
+        memory,
+        offset,
+        taken,
+        first_bytes(written),
+        wire,
+    );
     Transferred {
         outcome: Outcome::Done,
         taken,

@@ -4,10 +4,13 @@ use Rattle.engine.proofs.begin.Tie as tie
 use Rattle.engine.proofs.begin.Reads as reads
 use Rattle.engine.proofs.begin.Lts as lts
 use Rattle.engine.proofs.sides.at_block.Reads as at-block-reads
+
 at-block-requires : tie.Need-at-block-requires
 at-block-requires c κs = search needs
+
 at-block-requires-2 : tie.Need-at-block-requires-2
 at-block-requires-2 c κs = search needs
+
 returns : tie.Need-returns
 returns c = cc
 

@@ -5,8 +5,10 @@ use Rattle.field.proofs.given.Tie as tie
 use Rattle.field.proofs.given.Reads as reads
 use Rattle.field.proofs.given.Lts as lts
 use Rattle.field.proofs.reference_tag.Reads as reference-tag-reads
+
 reference-tag-requires : tie.Need-reference-tag-requires
 reference-tag-requires c κs = search needs
+
 returns : tie.Need-returns
 unfolding given
 returns c = rw (c .reference-tag .ensures)

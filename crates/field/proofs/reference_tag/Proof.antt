@@ -8,12 +8,16 @@ use Rattle.field.proofs.reference_tag.Reads as reads
 use Rattle.field.proofs.reference_tag.Lts as lts
 use Rattle.field.proofs.remaps.Reads as remaps-reads
 use Rattle.std.proofs.num.wrapping_add_u32.Reads as wrapping-add-u32-reads
+
 remaps-requires : tie.Need-remaps-requires
 remaps-requires c κs = search needs
+
 cast-wrapping-add-u32 : tie.Need-cast-wrapping-add-u32
 cast-wrapping-add-u32 c = search needs
+
 wrapping-add-u32-requires : tie.Need-wrapping-add-u32-requires
 wrapping-add-u32-requires c κs = search needs
+
 returns : tie.Need-returns
 unfolding referenceTag
 returns c = rw (sym (c .before .before .remaps .ensures) ∙ c .before .if1 .taken, c .wrapping-add-u32 .ensures) (omega arith)

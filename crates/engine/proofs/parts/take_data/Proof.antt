@@ -6,14 +6,19 @@ use Rattle.engine.proofs.parts.take_data.Lts as lts
 use Rattle.engine.proofs.sides.checks_guard.Reads as checks-guard-reads
 use Rattle.engine.proofs.sides.makes_guard.Reads as makes-guard-reads
 use Rattle.engine.proofs.sides.take.Reads as take-reads
+
 checks-guard-requires : tie.Need-checks-guard-requires
 checks-guard-requires c κs = search needs
+
 take-requires : tie.Need-take-requires
 take-requires c κs = search needs
+
 makes-guard-requires : tie.Need-makes-guard-requires
 makes-guard-requires c κs = search needs
+
 take-requires-2 : tie.Need-take-requires-2
 take-requires-2 c κs = search needs
+
 returns : tie.Need-returns
 returns c = rw (c .take2 .ensures, c .before .makes-guard .ensures, c .before .before .take .ensures, c .before .before .before .checks-guard .ensures)
 

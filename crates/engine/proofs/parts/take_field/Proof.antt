@@ -5,14 +5,19 @@ use Rattle.engine.proofs.parts.take_field.Reads as reads
 use Rattle.engine.proofs.parts.take_field.Lts as lts
 use Rattle.engine.proofs.parts.hold.Reads as hold-reads
 use Rattle.engine.proofs.sides.block_size.Reads as block-size-reads
+
 block-size-requires : tie.Need-block-size-requires
 block-size-requires c κs = search needs
+
 sub-from : tie.Need-sub-from
 sub-from c = search needs
+
 hold-requires : tie.Need-hold-requires
 hold-requires c κs = search needs
+
 add-t14 : tie.Need-add-t14
 add-t14 c = search needs
+
 returns : tie.Need-returns
 returns c = rw (c .before .hold .ensures, c .before .before .before .block-size .ensures .0)
 

@@ -4,8 +4,10 @@ use Rattle.engine.proofs.sides.at_block.Tie as tie
 use Rattle.engine.proofs.sides.at_block.Reads as reads
 use Rattle.engine.proofs.sides.at_block.Lts as lts
 use Rattle.guard.proofs.start.Reads as start-reads
+
 start-requires : tie.Need-start-requires
 start-requires c κs = search needs
+
 returns : tie.Need-returns
 returns c = cc
 

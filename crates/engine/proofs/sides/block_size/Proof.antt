@@ -7,18 +7,23 @@ use Rattle.engine.proofs.sides.block_size.Tie as tie
 use Rattle.engine.proofs.sides.block_size.Reads as reads
 use Rattle.engine.proofs.sides.block_size.Lts as lts
 use Rattle.field.proofs.signed.Reads as signed-reads
+
 signed-requires : tie.Need-signed-requires
 signed-requires c κs = search needs
+
 cast-result : tie.Need-cast-result
 cast-result c = search needs
+
 returns : tie.Need-returns
 unfolding blockSize
 returns c = rw (sym (c .before .before .signed .ensures) ∙ c .before .if1 .taken) (search needs)
 
 signed-requires-2 : tie.Need-signed-requires-2
 signed-requires-2 c κs = search needs
+
 cast-result-2 : tie.Need-cast-result-2
 cast-result-2 c = search needs
+
 returns-2 : tie.Need-returns-2
 unfolding blockSize
 returns-2 c = rw (sym (c .before .before .before .before .signed .ensures) ∙ c .before .before .before .if1 .left, sym (c .before .before .signed2 .ensures) ∙ c .before .if2 .taken) (search needs)

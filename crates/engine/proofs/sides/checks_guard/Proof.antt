@@ -6,8 +6,10 @@ use Rattle.engine.proofs.sides.checks_guard.Tie as tie
 use Rattle.engine.proofs.sides.checks_guard.Reads as reads
 use Rattle.engine.proofs.sides.checks_guard.Lts as lts
 use Rattle.field.proofs.signed.Reads as signed-reads
+
 signed-requires : tie.Need-signed-requires
 signed-requires c κs = search needs
+
 returns : tie.Need-returns
 unfolding checksGuard
 returns c = rw (sym (c .before .before .signed .ensures) ∙ c .before .if1 .taken)

@@ -6,8 +6,10 @@ use Rattle.engine.proofs.sides.field_size.Tie as tie
 use Rattle.engine.proofs.sides.field_size.Reads as reads
 use Rattle.engine.proofs.sides.field_size.Lts as lts
 use Rattle.field.proofs.signed.Reads as signed-reads
+
 signed-requires : tie.Need-signed-requires
 signed-requires c κs = search needs
+
 returns : tie.Need-returns
 unfolding fieldSize
 returns c = rw (sym (c .before .signed .ensures) ∙ c .if1 .taken) (search needs)

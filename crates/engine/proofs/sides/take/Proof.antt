@@ -4,10 +4,13 @@ use Rattle.engine.proofs.sides.take.Tie as tie
 use Rattle.engine.proofs.sides.take.Reads as reads
 use Rattle.engine.proofs.sides.take.Lts as lts
 use Rattle.guard.proofs.advance.Reads as advance-reads
+
 add-at : tie.Need-add-at
 add-at c = search needs
+
 advance-requires : tie.Need-advance-requires
 advance-requires c κs = search needs
+
 returns : tie.Need-returns
 returns c = rw (c .before .if1 .taken, c .advance .ensures)
 

@@ -5,8 +5,10 @@ use Rattle.engine.proofs.sides.written.Tie as tie
 use Rattle.engine.proofs.sides.written.Reads as reads
 use Rattle.engine.proofs.sides.written.Lts as lts
 use Rattle.engine.proofs.sides.unit_size.Reads as unit-size-reads
+
 unit-size-requires : tie.Need-unit-size-requires
 unit-size-requires c κs = search needs
+
 mul-result : tie.Need-mul-result
 mul-result c = rw (c .before .unit-size .ensures .0) (omega (arith, c .before .before .pre))
 

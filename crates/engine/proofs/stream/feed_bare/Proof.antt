@@ -11,41 +11,47 @@ use Rattle.engine.proofs.sides.at_block.Reads as at-block-reads
 use Rattle.engine.proofs.sides.written.Reads as written-reads
 use Rattle.layout.proofs.scatter.Reads as scatter-reads
 use Rattle.layout.proofs.offset.LayoutOffset.ahead.Reads as ahead-reads
+
 returns : tie.Need-returns
-returns c = 
+returns c =
     let s = c .before .before .before in
     bare-none _ (s .pre .0 .2) _ _ _ _ _ (s .pre .0 .0) (s .pre .0 .1) (c .if1 .taken)
 
 written-requires : tie.Need-written-requires
 written-requires c κs = search needs
+
 ahead-requires : tie.Need-ahead-requires
 ahead-requires c κs = search needs
+
 scatter-requires : tie.Need-scatter-requires
-scatter-requires c κs = 
+scatter-requires c κs =
     let s = c .before .before .before .before .before .before in
     let R = bare-room _ (s .pre .0 .2) _ _ _ (s .args .memory .now) (s .args .bytes .now) (s .pre .0 .0) (s .pre .0 .1) _ (s .pre .1) in
     (s .pre .1 .placed, rw (c .ahead .ensures, c .before .written .ensures) (R .0))
 
 add-at-block : tie.Need-add-at-block
-add-at-block c = 
+add-at-block c =
     let s = c .before .before .before .before .before .before .before .before .before .before .before in
     let R = bare-room _ (s .pre .0 .2) _ _ _ (s .args .memory .now) (s .args .bytes .now) (s .pre .0 .0) (s .pre .0 .1) _ (s .pre .1) in
     omega (arith, R .1 .input, R .2)
 
 at-block-requires : tie.Need-at-block-requires
 at-block-requires c κs = search needs
+
 add-at-block-2 : tie.Need-add-at-block-2
-add-at-block-2 c = 
+add-at-block-2 c =
     let s = c .before .before .before .before .before .before .before .before .before .before .before .before .before in
     let R = bare-room _ (s .pre .0 .2) _ _ _ (s .args .memory .now) (s .args .bytes .now) (s .pre .0 .0) (s .pre .0 .1) _ (s .pre .1) in
     omega (arith, R .1 .output, R .2)
 
 at-block-requires-2 : tie.Need-at-block-requires-2
 at-block-requires-2 c κs = search needs
+
 same-length : tie.Need-same-length
 same-length c = search needs
+
 returns-2 : tie.Need-returns-2
-returns-2 c = 
+returns-2 c =
     let w = c .before .before .before .before .before .before .before in
     let s = w .before .before .before .before .before .before .before in
     rw (c .at-block2 .ensures, c .before .before .at-block .ensures)

@@ -16,28 +16,32 @@ use Rattle.engine.proofs.sides.written.Reads as written-reads
 use Rattle.engine.proofs.whole.settle.Reads as settle-reads
 use Rattle.layout.proofs.scatter.Reads as scatter-reads
 use Rattle.layout.proofs.offset.LayoutOffset.ahead.Reads as ahead-reads
+
 block-size-requires : tie.Need-block-size-requires
 block-size-requires c κs = search needs
+
 written-requires : tie.Need-written-requires
 written-requires c κs = search needs
+
 ahead-requires : tie.Need-ahead-requires
 ahead-requires c κs = search needs
+
 scatter-requires : tie.Need-scatter-requires
-scatter-requires c κs = 
+scatter-requires c κs =
     let i = c .before .before .before in
     let s = i .before .before .before .before in
     let room = data-room _ _ _ (s .pre .1 .1) (s .pre .1 .0) _ _ (rw (i .before .block-size .ensures .0) at (i .if1 .taken)) _ _ refl (s .pre .1 .2) in
     (s .pre .1 .2 .placed, rw (c .ahead .ensures, c .before .written .ensures) (room .0))
 
 take-data-requires : tie.Need-take-data-requires
-take-data-requires c κs = 
+take-data-requires c κs =
     let i = c .before .before .before .before .before .before in
     let s = i .before .before .before .before in
     let h = rw (i .before .block-size .ensures .0) at (i .if1 .taken) in
     omega (arith, s .pre .1 .0 .block h, s .pre .0 .matched .most, s .pre .0 .at)
 
 settle-requires : tie.Need-settle-requires
-settle-requires c κs = 
+settle-requires c κs =
     let i = c .before .before .before .before .before .before .before .before in
     let s = i .before .before .before .before in
     let h = rw (i .before .block-size .ensures .0) at (i .if1 .taken) in
@@ -46,8 +50,9 @@ settle-requires c κs =
 
 same-length : tie.Need-same-length
 same-length c = search needs
+
 returns : tie.Need-returns
-returns c = 
+returns c =
     let i = c .before .before .before .before .before .before .before .before .before .before .before in
     let s = i .before .before .before .before in
     let h = rw (i .before .block-size .ensures .0) at (i .if1 .taken) in
@@ -56,12 +61,12 @@ returns c =
     (rw (c .before .before .before .before .take-data .ensures) at (c .before .before .settle .ensures))
 
 take-field-requires : tie.Need-take-field-requires
-take-field-requires c κs = 
+take-field-requires c κs =
     let s = c .before .before .before .before in
     field-holds _ _ (s .args .part .now) (s .pre .1 .1) (s .pre .1 .0) (rw (c .before .block-size .ensures .0) at (c .if1 .left)) (s .pre .0)
 
 settle-requires-2 : tie.Need-settle-requires-2
-settle-requires-2 c κs = 
+settle-requires-2 c κs =
     let i = c .before .before in
     let s = i .before .before .before .before in
     let h = rw (i .before .block-size .ensures .0) at (i .if1 .left) in
@@ -69,8 +74,9 @@ settle-requires-2 c κs =
 
 same-length-2 : tie.Need-same-length-2
 same-length-2 c = search needs
+
 returns-2 : tie.Need-returns-2
-returns-2 c = 
+returns-2 c =
     let i = c .before .before .before .before .before in
     let s = i .before .before .before .before in
     let h = rw (i .before .block-size .ensures .0) at (i .if1 .left) in

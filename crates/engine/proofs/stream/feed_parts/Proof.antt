@@ -36,7 +36,7 @@ part-feed-part-end : tie.Need-part-feed-part-end Inv-loop μ-loop
 part-feed-part-end c = omega (arith, c .before .part-length .ensures .2)
 
 feed-part-requires : tie.Need-feed-part-requires Inv-loop μ-loop
-feed-part-requires c κs = 
+feed-part-requires c κs =
     let n = c .before .before .part-length in
     let i = c .before .before .before .before .loop .inv in
     (i .inStep, rw (sub-zero (n .result)) (part-asks _ _ _ _ _ _ _ _ _ i (n .result) (n .ensures .1) (n .ensures .2) (n .ensures .0)))
@@ -51,13 +51,13 @@ part-rest-end : tie.Need-part-rest-end Inv-loop μ-loop
 part-rest-end c = search needs
 
 loop-less : tie.Need-loop-less Inv-loop μ-loop
-loop-less c = 
+loop-less c =
     let n = c .before .before .before .before .before .before .part-length in
     rw (part-to-end (c .before .before .before .before .before .before .before .before .loop .rest .now) (n .result))
     (rw (length-drop (n .result) (c .before .before .before .before .before .before .before .before .loop .rest .now)) (omega (arith, n .ensures .1, n .ensures .2)))
 
 loop-again : tie.Need-loop-again Inv-loop μ-loop
-loop-again c = 
+loop-again c =
     let n = c .before .before .before .before .before .before .part-length in
     let l = c .before .before .before .before .before .before .before .before in
     rw (part-to-end (l .loop .rest .now) (n .result))

@@ -14,26 +14,33 @@ use Rattle.field.proofs.decode.Reads as decode-reads
 use Rattle.field.proofs.judge.Reads as judge-reads
 use Rattle.field.proofs.signed.Reads as signed-reads
 use Rattle.guard.proofs.finish.Reads as finish-reads
+
 signed-requires : tie.Need-signed-requires
 signed-requires c κs = search needs
+
 finish-requires : tie.Need-finish-requires
 finish-requires c κs = search needs
+
 decode-requires : tie.Need-decode-requires
 decode-requires c κs = search needs
+
 judge-requires : tie.Need-judge-requires
 judge-requires c κs = search needs
+
 unit-size-requires : tie.Need-unit-size-requires
 unit-size-requires c κs = search needs
+
 mul-found : tie.Need-mul-found
-mul-found c = 
+mul-found c =
     let b = c .before .before .before .before .before .before .before .before .before in
     rw (c .before .unit-size .ensures .0) (omega (arith, offset-small (b .args .p .input .index) _ (b .pre .input) (b .pre .unit)))
 
 found-requires : tie.Need-found-requires
 found-requires c κs = search needs
+
 returns : tie.Need-returns
 unfolding errorDue errorBy
-returns c = 
+returns c =
     let b = c .before .before in
     let s = b .before .before .before .before .before .before in
     rw (c .found .ensures, b .unit-size .ensures .0, b .before .judge .ensures, b .before .before .decode .ensures, b .before .before .before .finish .ensures)

@@ -9,19 +9,25 @@ use Rattle.field.proofs.encode.Reads as encode-reads
 use Rattle.field.proofs.given.Reads as given-reads
 use Rattle.field.proofs.output.Reads as output-reads
 use Rattle.guard.proofs.finish.Reads as finish-reads
+
 finish-requires : tie.Need-finish-requires
 finish-requires c κs = search needs
+
 given-requires : tie.Need-given-requires
 given-requires c κs = search needs
+
 decode-requires : tie.Need-decode-requires
 decode-requires c κs = search needs
+
 output-requires : tie.Need-output-requires
 output-requires c κs = search needs
+
 encode-requires : tie.Need-encode-requires
 encode-requires c κs = search needs
+
 returns : tie.Need-returns
 unfolding fieldMade
-returns c = 
+returns c =
     let b = c .before .before in
     rw (c .encode .ensures, c .before .output2 .ensures, b .decode .ensures, b .before .given .ensures, b .before .before .finish .ensures)
 

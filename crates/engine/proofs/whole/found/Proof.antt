@@ -4,10 +4,13 @@ use Rattle.engine.proofs.whole.found.Statement.{statement}
 use Rattle.engine.proofs.whole.found.Tie as tie
 use Rattle.engine.proofs.whole.found.Reads as reads
 use Rattle.engine.proofs.whole.found.Lts as lts
+
 enum-told : tie.Need-enum-told
 enum-told c = search needs
+
 enum-known-judgement : tie.Need-enum-known-judgement
 enum-known-judgement c = search needs
+
 returns : tie.Need-returns
 unfolding slotOf
 returns c = rw (c .enum-told .given .1)

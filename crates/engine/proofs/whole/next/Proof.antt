@@ -6,20 +6,27 @@ use Rattle.engine.proofs.whole.next.Lts as lts
 use Rattle.engine.proofs.sides.at_block.Reads as at-block-reads
 use Rattle.engine.proofs.whole.error_due.Reads as error-due-reads
 use Rattle.key.proofs.keep.Reads as keep-reads
+
 error-due-requires : tie.Need-error-due-requires
 error-due-requires c κs = search needs
+
 keep-requires : tie.Need-keep-requires
 keep-requires c κs = search needs
+
 add-at-block : tie.Need-add-at-block
 add-at-block c = search needs
+
 at-block-requires : tie.Need-at-block-requires
 at-block-requires c κs = search needs
+
 add-at-block-2 : tie.Need-add-at-block-2
 add-at-block-2 c = search needs
+
 at-block-requires-2 : tie.Need-at-block-requires-2
 at-block-requires-2 c κs = search needs
+
 returns : tie.Need-returns
-returns c = 
+returns c =
     let b = c .before .before .before .before in
     rw (c .at-block2 .ensures, c .before .before .at-block .ensures, b .keep .ensures, b .before .error-due .ensures)
 

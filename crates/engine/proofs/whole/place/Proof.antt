@@ -11,18 +11,24 @@ use Rattle.engine.proofs.whole.field_made.Reads as field-made-reads
 use Rattle.field.proofs.signed.Reads as signed-reads
 use Rattle.layout.proofs.scatter.Reads as scatter-reads
 use Rattle.layout.proofs.offset.LayoutOffset.ahead.Reads as ahead-reads
+
 signed-requires : tie.Need-signed-requires
 signed-requires c κs = search needs
+
 field-made-requires : tie.Need-field-made-requires
 field-made-requires c κs = search needs
+
 written-requires : tie.Need-written-requires
 written-requires c κs = search needs
+
 ahead-requires : tie.Need-ahead-requires
 ahead-requires c κs = search needs
+
 slice-aggregate-scatter : tie.Need-slice-aggregate-scatter
 slice-aggregate-scatter c = search needs
+
 scatter-requires : tie.Need-scatter-requires
-scatter-requires c κs = 
+scatter-requires c κs =
     let f = c .before .before .before .before in
     let s = f .before .before .before .before in
     let fits = rw (sym (f .before .before .signed .ensures) ∙ f .before .if1 .taken) at (s .pre .fits) in
@@ -30,8 +36,9 @@ scatter-requires c κs =
 
 same-length : tie.Need-same-length
 same-length c = search needs
+
 returns : tie.Need-returns
-returns c = 
+returns c =
     let w = c .before .before .before .before .before .before in
     c .before .before .scatter .ensures
     ∙ rw (c .before .before .before .before .before .ahead .ensures, w .written .ensures, w .before .field-made .ensures, sym (w .before .before .before .signed .ensures) ∙ w .before .before .if1 .taken)

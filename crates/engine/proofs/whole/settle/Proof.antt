@@ -8,25 +8,28 @@ use Rattle.engine.proofs.whole.settle.Lts as lts
 use Rattle.engine.proofs.sides.unit_size.Reads as unit-size-reads
 use Rattle.engine.proofs.whole.next.Reads as next-reads
 use Rattle.engine.proofs.whole.place.Reads as place-reads
+
 unit-size-requires : tie.Need-unit-size-requires
 unit-size-requires c κs = search needs
+
 returns : tie.Need-returns
 returns c = settled-partial _ _ _ _ _ _ (c .before .before .unit-size .ensures .0) (c .if1 .taken)
 
 place-requires : tie.Need-place-requires
-place-requires c κs = 
+place-requires c κs =
     let s = c .before .before .before .before .before .before in
     room-due _ _ _ _ (s .args .memory .now) _ _ (c .before .before .before .unit-size .ensures .0) (c .before .if1 .left) (s .pre .1)
 
 next-requires : tie.Need-next-requires
-next-requires c κs = 
+next-requires c κs =
     let s = c .before .before .before .before .before .before .before .before .before in
     countable _ _ (s .pre .0) (omega (arith, s .pre .1 .fits, s .pre .1 .small))
 
 same-length : tie.Need-same-length
 same-length c = search needs
+
 returns-2 : tie.Need-returns-2
-returns-2 c = 
+returns-2 c =
     let u = c .before .before .before .before .before .before .before in
     settled-whole _ _ _ _ _ _ (u .unit-size .ensures .0) (c .before .before .before .before .before .if1 .left) _ _ (c .next .ensures) (c .before .before .before .place .ensures)
 

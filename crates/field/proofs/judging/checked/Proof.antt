@@ -6,8 +6,10 @@ use Rattle.field.proofs.judging.checked.Tie as tie
 use Rattle.field.proofs.judging.checked.Reads as reads
 use Rattle.field.proofs.judging.checked.Lts as lts
 use Rattle.field.proofs.judging.escaped.Reads as escaped-reads
+
 escaped-requires : tie.Need-escaped-requires
 escaped-requires c κs = search needs
+
 returns : tie.Need-returns
 unfolding checked
 returns c = rw (sym (c .before .escaped .ensures) ∙ c .if1 .taken)

@@ -4,6 +4,7 @@ use Rattle.field.proofs.judging.escaped.Statement.{statement}
 use Rattle.field.proofs.judging.escaped.Tie as tie
 use Rattle.field.proofs.judging.escaped.Reads as reads
 use Rattle.field.proofs.judging.escaped.Lts as lts
+
 returns : tie.Need-returns
 unfolding escaped
 returns c = rw (ne-eqb _ _ (c .if1 .taken))

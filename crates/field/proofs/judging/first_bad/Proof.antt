@@ -5,18 +5,23 @@ use Rattle.field.proofs.judging.first_bad.Statement.{statement}
 use Rattle.field.proofs.judging.first_bad.Tie as tie
 use Rattle.field.proofs.judging.first_bad.Reads as reads
 use Rattle.field.proofs.judging.first_bad.Lts as lts
+
 cast-t6 : tie.Need-cast-t6
 cast-t6 c = search needs
+
 cast-t7 : tie.Need-cast-t7
 cast-t7 c = search needs
+
 returns : tie.Need-returns
 unfolding firstBad
 returns c = rw (lt-ltb _ _ (c .before .before .if1 .taken))
 
 cast-t11 : tie.Need-cast-t11
 cast-t11 c = search needs
+
 cast-t12 : tie.Need-cast-t12
 cast-t12 c = search needs
+
 returns-2 : tie.Need-returns-2
 unfolding firstBad
 returns-2 c = rw (le-ltb _ _ (c .before .before .before .if1 .left), lt-ltb _ _ (c .before .before .if2 .taken))

@@ -8,14 +8,19 @@ use Rattle.field.proofs.given.Reads as given-reads
 use Rattle.field.proofs.judging.checked.Reads as checked-reads
 use Rattle.field.proofs.judging.differing.Reads as differing-reads
 use Rattle.field.proofs.judging.first_bad.Reads as first-bad-reads
+
 given-requires : tie.Need-given-requires
 given-requires c κs = search needs
+
 checked-requires : tie.Need-checked-requires
 checked-requires c κs = search needs
+
 differing-requires : tie.Need-differing-requires
 differing-requires c κs = search needs
+
 first-bad-requires : tie.Need-first-bad-requires
 first-bad-requires c κs = search needs
+
 returns : tie.Need-returns
 unfolding judged
 returns c = rw (c .first-bad .ensures, c .before .differing .ensures, c .before .before .checked .ensures, c .before .before .before .given .ensures)

@@ -8,26 +8,30 @@ use Rattle.field.proofs.making.copy_mask.Reads as reads
 use Rattle.field.proofs.making.copy_mask.Lts as lts
 use Rattle.field.proofs.making.agreement.Reads as agreement-reads
 use Rattle.field.proofs.signed.Reads as signed-reads
+
 returns : tie.Need-returns
 unfolding copyMask
 returns c = rw (ne-eqb _ _ (c .if1 .taken))
 
 signed-requires : tie.Need-signed-requires
 signed-requires c κs = search needs
+
 signed-requires-2 : tie.Need-signed-requires-2
 signed-requires-2 c κs = search needs
+
 agreement-requires : tie.Need-agreement-requires
 agreement-requires c κs = search needs
+
 returns-2 : tie.Need-returns-2
 unfolding copyMask
-returns-2 c = 
+returns-2 c =
     let b = c .before .before in
     rw (eq-eqb _ _ (b .before .before .before .if1 .left), sym (b .before .before .signed .ensures) ∙ b .before .if2 .taken, sym (b .signed2 .ensures) ∙ c .before .if3 .taken)
     (c .agreement .ensures)
 
 returns-3 : tie.Need-returns-3
 unfolding copyMask
-returns-3 c = 
+returns-3 c =
     rw (eq-eqb _ _ (c .before .before .before .before .if1 .left), sym (c .before .before .before .signed .ensures) ∙ c .before .before .if2 .taken, sym (c .before .signed2 .ensures) ∙ c .if3 .left)
 
 returns-4 : tie.Need-returns-4

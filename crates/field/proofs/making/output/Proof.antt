@@ -9,27 +9,37 @@ use Rattle.field.proofs.bytes.four.Reads as four-reads
 use Rattle.field.proofs.bytes.lower.Reads as lower-reads
 use Rattle.field.proofs.bytes.upper.Reads as upper-reads
 use Rattle.field.proofs.making.pair.Reads as pair-reads
+
 upper-requires : tie.Need-upper-requires
 upper-requires c κs = search needs
+
 upper-requires-2 : tie.Need-upper-requires-2
 upper-requires-2 c κs = search needs
+
 pair-requires : tie.Need-pair-requires
 pair-requires c κs = search needs
+
 lower-requires : tie.Need-lower-requires
 lower-requires c κs = search needs
+
 lower-requires-2 : tie.Need-lower-requires-2
 lower-requires-2 c κs = search needs
+
 pair-requires-2 : tie.Need-pair-requires-2
 pair-requires-2 c κs = search needs
+
 pair-requires-3 : tie.Need-pair-requires-3
 pair-requires-3 c κs = search needs
+
 pair-requires-4 : tie.Need-pair-requires-4
 pair-requires-4 c κs = search needs
+
 four-requires : tie.Need-four-requires
 four-requires c κs = search needs
+
 returns : tie.Need-returns
 unfolding outputField merged bytesOf fieldOf
-returns c = 
+returns c =
     let l = c .before .before .before in
     let h = l .before .before .before in
     rw (c .four .ensures, c .before .pair4 .ensures, c .before .before .pair3 .ensures, l .pair2 .ensures, h .pair .ensures)

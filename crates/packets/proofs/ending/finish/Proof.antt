@@ -7,15 +7,19 @@ use Rattle.packets.proofs.ending.finish.Lts as lts
 use Rattle.packets.proofs.ending.key_of.Reads as key-of-reads
 use Rattle.packets.proofs.packing.taken.Reads as taken-reads
 use Rattle.packets.proofs.packing.wire_length.Reads as wire-length-reads
+
 taken-requires : tie.Need-taken-requires
 taken-requires c κs = search needs
+
 wire-length-requires : tie.Need-wire-length-requires
 wire-length-requires c κs = search needs
+
 returns : tie.Need-returns
 returns c = finish-early _ _ _ (c .before .before .before .taken .ensures) (c .before .before .wire-length .ensures) (c .before .if1 .taken)
 
 key-of-requires : tie.Need-key-of-requires
 key-of-requires c κs = search needs
+
 returns-2 : tie.Need-returns-2
 returns-2 c = finish-done _ _ _ (c .before .before .before .taken .ensures) (c .before .before .wire-length .ensures) (c .before .if1 .left) _ (c .key-of .ensures)
 

@@ -6,12 +6,16 @@ use Rattle.packets.proofs.opening.open.Lts as lts
 use Rattle.engine.proofs.begin.Reads as begin-reads
 use Rattle.key.proofs.admit.Reads as admit-reads
 use Rattle.transfer.proofs.receive_rule.Reads as receive-rule-reads
+
 admit-requires : tie.Need-admit-requires
 admit-requires c κs = search needs
+
 receive-rule-requires : tie.Need-receive-rule-requires
 receive-rule-requires c κs = search needs
+
 begin-requires : tie.Need-begin-requires
 begin-requires c κs = search needs
+
 returns : tie.Need-returns
 returns c = rw (c .begin .ensures, c .before .receive-rule .ensures, c .before .before .admit .ensures)
 

@@ -7,23 +7,26 @@ use Rattle.packets.proofs.packing.answer.Reads as reads
 use Rattle.packets.proofs.packing.answer.Lts as lts
 use Rattle.packets.proofs.packing.taken.Reads as taken-reads
 use Rattle.packets.proofs.packing.wire_length.Reads as wire-length-reads
+
 returns : tie.Need-returns
 returns c = answer-8 _ _ _ (c .if1 .taken)
 
 wire-length-requires : tie.Need-wire-length-requires
 wire-length-requires c κs = search needs
+
 taken-requires : tie.Need-taken-requires
 taken-requires c κs = search needs
+
 sub-if2 : tie.Need-sub-if2
 sub-if2 c = rw (c .taken .ensures, c .before .wire-length .ensures) (session-short _ (c .before .before .before .before .before .before .before .pre))
 
 returns-2 : tie.Need-returns-2
-returns-2 c = 
+returns-2 c =
     let w = c .before .before in
     answer-12 _ _ _ (w .before .if1 .left) _ _ (c .before .taken .ensures) (w .wire-length .ensures) (rw (c .before .taken .ensures, w .wire-length .ensures) (session-short _ (w .before .before .before .before .before .before .pre))) (c .if2 .taken)
 
 returns-3 : tie.Need-returns-3
-returns-3 c = 
+returns-3 c =
     let w = c .before .before in
     answer-0 _ _ _ (w .before .if1 .left) _ _ (c .before .taken .ensures) (w .wire-length .ensures) (rw (c .before .taken .ensures, w .wire-length .ensures) (session-short _ (w .before .before .before .before .before .before .pre))) (c .if2 .left)
 

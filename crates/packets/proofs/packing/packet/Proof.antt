@@ -10,22 +10,27 @@ use Rattle.engine.proofs.written.Reads as written-reads
 use Rattle.engine.proofs.feed.Reads as feed-reads
 use Rattle.packets.proofs.packing.answer.Reads as answer-reads
 use Rattle.transfer.proofs.receive_rule.Reads as receive-rule-reads
+
 answer-requires : tie.Need-answer-requires
 answer-requires c κs = search needs
 
 enum-told : tie.Need-enum-told
 enum-told c = search needs
+
 enum-told-2 : tie.Need-enum-told-2
 enum-told-2 c = search needs
+
 same-length : tie.Need-same-length
 same-length c = search needs
+
 returns : tie.Need-returns
 returns c = packet-refused _ _ _ _ _ (c .before .before .answer .ensures) (c .enum-told2 .given .1)
 
 receive-rule-requires : tie.Need-receive-rule-requires
 receive-rule-requires c κs = search needs
+
 feed-requires : tie.Need-feed-requires
-feed-requires c κs = 
+feed-requires c κs =
     let t = c .before .before .before .before in
     let s = t .before .before .before .before .before .before in
     let d = packet-told _ _ _ (sym (t .before .before .answer .ensures) ∙ t .enum-told .given .1) in
@@ -33,7 +38,7 @@ feed-requires c κs =
     (session-in-step _ (s .pre), packet-room _ (s .pre) (s .args .bytes .now) (λ i. t .before .before .before .before .shared-slice-known .given i .fits) (d .1) _ (d .0))
 
 taken-requires : tie.Need-taken-requires
-taken-requires c κs = 
+taken-requires c κs =
     let t = c .before .before .before .before .before .before .before in
     let s = t .before .before .before .before .before .before in
     let d = packet-told _ _ _ (sym (t .before .before .answer .ensures) ∙ t .enum-told .given .1) in
@@ -41,7 +46,7 @@ taken-requires c κs =
     (packet-taken _ (s .pre) (s .args .bytes .now) (λ i. t .before .before .before .before .shared-slice-known .given i .fits) (d .1))
 
 written-requires : tie.Need-written-requires
-written-requires c κs = 
+written-requires c κs =
     let t = c .before .before .before .before .before .before .before .before in
     let s = t .before .before .before .before .before .before in
     let d = packet-told _ _ _ (sym (t .before .before .answer .ensures) ∙ t .enum-told .given .1) in
@@ -50,8 +55,9 @@ written-requires c κs =
 
 same-length-2 : tie.Need-same-length-2
 same-length-2 c = search needs
+
 returns-2 : tie.Need-returns-2
-returns-2 c = 
+returns-2 c =
     let f = c .before .before .before .before in
     let t = f .before .before .before .before .before in
     rw (c .written .ensures, c .before .taken .ensures, f .before .before .receive-rule .ensures)

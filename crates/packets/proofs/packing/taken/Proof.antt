@@ -8,10 +8,12 @@ use Rattle.packets.proofs.packing.taken.Reads as reads
 use Rattle.packets.proofs.packing.taken.Lts as lts
 use Rattle.engine.proofs.taken.Reads as taken-reads
 use Rattle.transfer.proofs.receive_rule.Reads as receive-rule-reads
+
 receive-rule-requires : tie.Need-receive-rule-requires
 receive-rule-requires c κs = search needs
+
 taken-requires : tie.Need-taken-requires
-taken-requires c κs = 
+taken-requires c κs =
     let s = c .before .before .before in
     rw (c .receive-rule .ensures) (omega (arith, session-short _ (s .pre), wire-short _ (s .pre)))
 

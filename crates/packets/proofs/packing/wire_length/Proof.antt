@@ -5,6 +5,7 @@ use Rattle.packets.proofs.packing.wire_length.Tie as tie
 use Rattle.packets.proofs.packing.wire_length.Reads as reads
 use Rattle.packets.proofs.packing.wire_length.Lts as lts
 use Rattle.key.proofs.stream_length.Reads as stream-length-reads
+
 stream-length-requires : tie.Need-stream-length-requires
 stream-length-requires c κs = wire-measured _ (c .before .before .pre)
 

@@ -15,42 +15,51 @@ use Rattle.key.proofs.stream_length.Reads as stream-length-reads
 use Rattle.key.proofs.record.Reads as record-reads
 use Rattle.transfer.proofs.rules.ranged.Reads as ranged-reads
 use Rattle.transfer.proofs.rules.receive_rule.Reads as receive-rule-reads
+
 admit-transfer-requires : tie.Need-admit-transfer-requires
 admit-transfer-requires c κs = search needs
 
 enum-told : tie.Need-enum-told
 enum-told c = search needs
+
 enum-told-2 : tie.Need-enum-told-2
 enum-told-2 c = search needs
+
 same-length : tie.Need-same-length
 same-length c = search needs
+
 returns : tie.Need-returns
-returns c = 
+returns c =
     receive-refused _ _ _ _ _ _ _ (c .before .before .admit-transfer .ensures) (c .enum-told2 .given .1)
 
 receive-rule-requires : tie.Need-receive-rule-requires
 receive-rule-requires c κs = search needs
+
 ranged-requires : tie.Need-ranged-requires
 ranged-requires c κs = search needs
+
 stream-length-requires : tie.Need-stream-length-requires
-stream-length-requires c κs = 
+stream-length-requires c κs =
     let a = c .before .before .before .before .before .before in
     accept _ _ _ _ _ (a .before .before .before .before .pre) (sym (a .admit-transfer .ensures) ∙ c .before .before .before .before .enum-told .given .1) .measured .1
 
 begin-requires : tie.Need-begin-requires
 begin-requires c κs = search needs
+
 sub-feed : tie.Need-sub-feed
 sub-feed c = search needs
+
 part-feed-start : tie.Need-part-feed-start
 part-feed-start c = search needs
+
 part-feed-end : tie.Need-part-feed-end
-part-feed-end c = 
+part-feed-end c =
     let a = c .before .before .before .before .before .before .before .before .before in
     let A = accept _ _ _ _ _ (a .before .before .before .before .pre) (sym (a .admit-transfer .ensures) ∙ c .before .before .before .before .before .before .before .enum-told .given .1) in
     rw (c .before .before .stream-length .ensures) (A .wire)
 
 feed-requires : tie.Need-feed-requires
-feed-requires c κs = 
+feed-requires c κs =
     let d = c .before .before in
     let a = d .before .before .before .before .before .before .before .before in
     let s = a .before .before .before .before in
@@ -59,16 +68,18 @@ feed-requires c κs =
     (rw (d .before .before .before .receive-rule .ensures) at (d .before .before .ranged .ensures)) (λ i. a .before .before .shared-slice-known .given i .fits))
 
 stream-length-requires-2 : tie.Need-stream-length-requires-2
-stream-length-requires-2 c κs = 
+stream-length-requires-2 c κs =
     let a = c .before .before .before .before .before .before .before .before .before .before .before .before .before in
     accept _ _ _ _ _ (a .before .before .before .before .pre) (sym (a .admit-transfer .ensures) ∙ c .before .before .before .before .before .before .before .before .before .before .before .enum-told .given .1) .measured .0
 
 record-requires : tie.Need-record-requires
 record-requires c κs = search needs
+
 same-length-2 : tie.Need-same-length-2
 same-length-2 c = search needs
+
 returns-2 : tie.Need-returns-2
-returns-2 c = 
+returns-2 c =
     let f = c .before .before .before .before in
     let d = f .before .before .before in
     let a = d .before .before .before .before .before .before .before .before in

@@ -4,8 +4,10 @@ use Rattle.transfer.proofs.rules.send_rule.Tie as tie
 use Rattle.transfer.proofs.rules.send_rule.Reads as reads
 use Rattle.transfer.proofs.rules.send_rule.Lts as lts
 use Rattle.field.proofs.copy_mask.Reads as copy-mask-reads
+
 copy-mask-requires : tie.Need-copy-mask-requires
 copy-mask-requires c κs = search needs
+
 returns : tie.Need-returns
 returns c = rw (c .copy-mask .ensures)
 

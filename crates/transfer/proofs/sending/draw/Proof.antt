@@ -36,7 +36,7 @@ ahead-requires : tie.Need-ahead-requires Inv-loop μ-loop
 ahead-requires c κs = omega (arith, c .before .before .before .before .before .pre .inside, c .before .before .before .before .before .pre .small)
 
 run-requires : tie.Need-run-requires Inv-loop μ-loop
-run-requires c κs = 
+run-requires c κs =
     let s = c .before .before .before .before .before .before in
     (s .pre .placed, rw (c .ahead .ensures) (omega (arith, s .pre .inside)))
 
@@ -59,7 +59,7 @@ part-feed-end : tie.Need-part-feed-end Inv-loop μ-loop
 part-feed-end c = omega (arith, c .before .before .lesser .ensures)
 
 feed-requires : tie.Need-feed-requires Inv-loop μ-loop
-feed-requires c κs = 
+feed-requires c κs =
     let u = c .before .before .before .before in
     let l = u .before .before .before in
     let s = l .before .before .before .before in
@@ -67,12 +67,12 @@ feed-requires c κs =
     (draw-asks _ _ _ _ _ _ _ (s .pre) _ _ _ (u .before .before .loop-test .taken) (l .loop .inv .1) _ _ (rw (u .before .ahead .ensures) at (u .run .ensures)) (c .before .before .before .lesser .ensures))
 
 add-done : tie.Need-add-done Inv-loop μ-loop
-add-done c = 
+add-done c =
     let u = c .before .before .before .before .before .before .before in
     omega (arith, c .before .before .before .before .before .before .lesser .ensures, u .before .before .loop-test .taken)
 
 loop-less : tie.Need-loop-less Inv-loop μ-loop
-loop-less c = 
+loop-less c =
     let u = c .before .before .before .before .before .before .before in
     let l = u .before .before .before in
     let s = l .before .before .before .before in
@@ -81,21 +81,21 @@ loop-less c =
     omega arith
 
 loop-again : tie.Need-loop-again Inv-loop μ-loop
-loop-again c = 
+loop-again c =
     let u = c .before .before .before .before .before .before .before in
     let l = u .before .before .before in
     let s = l .before .before .before .before in
-    let e = c .before .before .before .before .before .before .lesser .ensures in
-    ( omega (arith, e, u .before .before .loop-test .taken)
-    , draw-turn _ _ _ _ _ _ _ (s .pre) _ _ _ (u .before .before .loop-test .taken) (l .loop .inv .1) _ _ (rw (u .before .ahead .ensures) at (u .run .ensures)) e _ _
-    (rw (c .before .before .before .before .new .ensures, sub-zero _) at (c .before .before .feed .ensures))
+    let e = c .before .before .before .before .before .before .lesser .ensures in (
+      omega (arith, e, u .before .before .loop-test .taken),
+      draw-turn _ _ _ _ _ _ _ (s .pre) _ _ _ (u .before .before .loop-test .taken) (l .loop .inv .1) _ _ (rw (u .before .ahead .ensures) at (u .run .ensures)) e _ _
+          (rw (c .before .before .before .before .new .ensures, sub-zero _) at (c .before .before .feed .ensures)),
     )
 
 same-length : tie.Need-same-length Inv-loop μ-loop
 same-length c = c .before .loop .inv .1 .size
 
 returns : tie.Need-returns Inv-loop μ-loop
-returns c = 
+returns c =
     let all : c .before .loop .done ≡ c .before .before .before .before .before .args .n = omega arith in
     draw-end _ _ _ _ _ _ _ (c .before .before .before .before .before .pre) _ _ _ all (c .before .loop .inv .1)
 

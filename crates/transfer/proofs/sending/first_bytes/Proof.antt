@@ -7,12 +7,15 @@ use Rattle.transfer.proofs.sending.first_bytes.Tie as tie
 use Rattle.transfer.proofs.sending.first_bytes.Reads as reads
 use Rattle.transfer.proofs.sending.first_bytes.Lts as lts
 use Rattle.layout.proofs.offset.MemoryOffset.new.Reads as new-reads
+
 new-requires : tie.Need-new-requires
 new-requires c κs = search needs
+
 cast-t4 : tie.Need-cast-t4
 cast-t4 c = search needs
+
 returns : tie.Need-returns
-returns c = 
+returns c =
     let e : _≡_ {A = MemoryOffset} (c .new .result) (record { 0 = 0 }) = ap (λ (n : ℕ). record { 0 = n }) (c .new .ensures) in
     rw e
 

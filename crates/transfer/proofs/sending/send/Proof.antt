@@ -13,36 +13,42 @@ use Rattle.transfer.proofs.rules.ranged.Reads as ranged-reads
 use Rattle.transfer.proofs.rules.send_rule.Reads as send-rule-reads
 use Rattle.transfer.proofs.sending.draw.Reads as draw-reads
 use Rattle.transfer.proofs.sending.first_bytes.Reads as first-bytes-reads
+
 admit-transfer-requires : tie.Need-admit-transfer-requires
 admit-transfer-requires c κs = search needs
 
 enum-told : tie.Need-enum-told
 enum-told c = search needs
+
 enum-told-2 : tie.Need-enum-told-2
 enum-told-2 c = search needs
+
 same-length : tie.Need-same-length
 same-length c = search needs
+
 returns : tie.Need-returns
 returns c = send-refused _ _ _ _ _ _ _ (c .before .before .admit-transfer .ensures) (c .enum-told2 .given .1)
 
 send-rule-requires : tie.Need-send-rule-requires
 send-rule-requires c κs = search needs
+
 ranged-requires : tie.Need-ranged-requires
 ranged-requires c κs = search needs
+
 stream-length-requires : tie.Need-stream-length-requires
-stream-length-requires c κs = 
+stream-length-requires c κs =
     let t = c .before .before .before .before in
     let a = t .before .before in
     accept _ _ _ _ _ (a .before .before .before .before .pre) (sym (a .admit-transfer .ensures) ∙ t .enum-told .given .1) .measured .0
 
 stream-length-requires-2 : tie.Need-stream-length-requires-2
-stream-length-requires-2 c κs = 
+stream-length-requires-2 c κs =
     let t = c .before .before .before .before .before in
     let a = t .before .before in
     accept _ _ _ _ _ (a .before .before .before .before .pre) (sym (a .admit-transfer .ensures) ∙ t .enum-told .given .1) .measured .1
 
 first-bytes-requires : tie.Need-first-bytes-requires
-first-bytes-requires c κs = 
+first-bytes-requires c κs =
     let f = c .before .before .before in
     let t = f .before .before .before in
     let a = t .before .before in
@@ -52,7 +58,7 @@ first-bytes-requires c κs =
     (rw (f .send-rule .ensures) at (c .before .before .ranged .ensures)) (λ i. a .before .before .before .shared-slice-known .given i .fits))
 
 draw-requires : tie.Need-draw-requires
-draw-requires c κs = 
+draw-requires c κs =
     let f = c .before .before .before .before .before in
     let t = f .before .before .before in
     let a = t .before .before in
@@ -63,10 +69,12 @@ draw-requires c κs =
 
 record-requires : tie.Need-record-requires
 record-requires c κs = search needs
+
 same-length-2 : tie.Need-same-length-2
 same-length-2 c = search needs
+
 returns-2 : tie.Need-returns-2
-returns-2 c = 
+returns-2 c =
     let l = c .before .before .before .before .before in
     let f = l .before .before .before .before in
     let t = f .before .before .before in

@@ -12,42 +12,51 @@ use Rattle.key.proofs.number.Reads as number-reads
 use Rattle.key.proofs.check.Reads as check-reads
 use Rattle.wirecheck.proofs.receiving.receive_in_packets.Reads as receive-in-packets-reads
 use Rattle.wirecheck.proofs.setup.configuration.Reads as configuration-reads
+
 returns : tie.Need-returns
 unfolding checkOf
 returns c = rw (c .if1 .taken)
 
 fresh-requires : tie.Need-fresh-requires
 fresh-requires c κs = search needs
+
 configuration-requires : tie.Need-configuration-requires
 configuration-requires c κs = search needs
+
 configure-requires : tie.Need-configure-requires
 configure-requires c κs = search needs
 
 enum-told : tie.Need-enum-told
 enum-told c = search needs
+
 enum-told-2 : tie.Need-enum-told-2
 enum-told-2 c = search needs
+
 number-requires : tie.Need-number-requires
 number-requires c κs = search needs
+
 same-length : tie.Need-same-length
 same-length c = search needs
+
 returns-2 : tie.Need-returns-2
-returns-2 c = 
+returns-2 c =
     let f = c .before .before .before in
     check-refused _ _ _ (f .before .before .before .before .if1 .left) _ (rw (f .before .configuration .ensures, f .before .before .before .fresh .ensures) at (f .configure .ensures)) _ (c .before .enum-told2 .given .1) _ (c .number .ensures)
 
 receive-in-packets-requires : tie.Need-receive-in-packets-requires
-receive-in-packets-requires c κs = 
+receive-in-packets-requires c κs =
     let f = c .before .before .before in
     let s = f .before .before .before .before .before .before .before in
     check-asks (s .args .wire .now) (s .args .more) (s .args .memory .now) (f .before .before .before .before .if1 .left) _ (rw (f .before .configuration .ensures, f .before .before .before .fresh .ensures) at (f .configure .ensures)) (c .before .enum-told .given .1)
 
 check-requires : tie.Need-check-requires
 check-requires c κs = search needs
+
 same-length-2 : tie.Need-same-length-2
 same-length-2 c = search needs
+
 returns-3 : tie.Need-returns-3
-returns-3 c = 
+returns-3 c =
     let f = c .before .before .before .before .before .before .before in
     check-found _ _ _ (f .before .before .before .before .if1 .left) _ (rw (f .before .configuration .ensures, f .before .before .before .fresh .ensures) at (f .configure .ensures))
     (c .before .before .before .before .before .enum-told .given .1) _ (c .before .before .before .receive-in-packets .ensures) _ (c .check .ensures)

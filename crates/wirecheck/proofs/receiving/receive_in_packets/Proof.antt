@@ -37,7 +37,7 @@ open-requires : tie.Need-open-requires Inv-loop μ-loop
 open-requires c κs = came _ _ _ (c .before .before .before .before .pre)
 
 loop-holds : tie.Need-loop-holds Inv-loop μ-loop
-loop-holds c = 
+loop-holds c =
     let s = c .before .before .before .before .before .before in
     let z : _≡_ {A = LayoutOffset} (c .before .before .new .result) (record { 0 = 0 }) = ap (λ (n : ℕ). record { 0 = n }) (c .before .before .new .ensures) in
     let a = opened-along _ (s .args .memory .now) (s .args .wire .now) (s .pre) (λ i. c .before .before .before .before .before .shared-slice-known .given i .fits) _ (rw z at (c .before .«open» .ensures)) in
@@ -56,7 +56,7 @@ part-packet-end : tie.Need-part-packet-end Inv-loop μ-loop
 part-packet-end c = omega (arith, c .before .lesser .ensures)
 
 packet-requires : tie.Need-packet-requires Inv-loop μ-loop
-packet-requires c κs = 
+packet-requires c κs =
     let l = c .before .before .before .before in
     let s = l .before .before .before .before .before .before .before in
     along-session _ (s .args .memory .now) (s .args .wire .now) (l .loop .inv .0) (λ i. l .before .before .before .before .before .before .shared-slice-known .given i .fits) _ _ (l .loop .inv .1)
@@ -71,26 +71,26 @@ part-rest-end : tie.Need-part-rest-end Inv-loop μ-loop
 part-rest-end c = search needs
 
 loop-less : tie.Need-loop-less Inv-loop μ-loop
-loop-less c = 
+loop-less c =
     let t = c .before .before .before .before .before .before .before .before in
     let n = c .before .before .before .before .before .before .before .lesser in
     rw (part-to-end (t .before .loop .rest .now) (n .result)) (rw (length-drop (n .result) (t .before .loop .rest .now)) (omega (arith, n .ensures, t .loop-test .taken)))
 
 loop-again : tie.Need-loop-again Inv-loop μ-loop
-loop-again c = 
+loop-again c =
     let n = c .before .before .before .before .before .before .before .lesser in
     let l = c .before .before .before .before .before .before .before .before .before in
     let s = l .before .before .before .before .before .before .before in
     let p = c .before .before .before .before .packet in
-    rw (part-to-end (l .loop .rest .now) (n .result))
-    ( l .loop .inv .0
-    , along-next _ (s .args .memory .now) (s .args .wire .now) (l .loop .inv .0) (λ i. l .before .before .before .before .before .before .shared-slice-known .given i .fits) _ _ (l .loop .inv .1)
-    _ (n .result) (l .loop .inv .2) _ (ap (λ (q : Packed). q .session) (rw (sub-zero (n .result)) at (p .ensures .0)))
-    , p .kept .1 .0 ∙ l .loop .inv .2
+    rw (part-to-end (l .loop .rest .now) (n .result)) (
+      l .loop .inv .0,
+      along-next _ (s .args .memory .now) (s .args .wire .now) (l .loop .inv .0) (λ i. l .before .before .before .before .before .before .shared-slice-known .given i .fits) _ _ (l .loop .inv .1)
+          _ (n .result) (l .loop .inv .2) _ (ap (λ (q : Packed). q .session) (rw (sub-zero (n .result)) at (p .ensures .0))),
+      p .kept .1 .0 ∙ l .loop .inv .2,
     )
 
 finish-requires : tie.Need-finish-requires Inv-loop μ-loop
-finish-requires c κs = 
+finish-requires c κs =
     let l = c .before in
     let s = l .before .before .before .before .before .before .before in
     along-session _ (s .args .memory .now) (s .args .wire .now) (l .loop .inv .0) (λ i. l .before .before .before .before .before .before .shared-slice-known .given i .fits) _ _ (l .loop .inv .1)
@@ -99,7 +99,7 @@ same-length : tie.Need-same-length Inv-loop μ-loop
 same-length c = c .before .before .before .loop .inv .2
 
 returns : tie.Need-returns Inv-loop μ-loop
-returns c = 
+returns c =
     let l = c .before .before .before in
     let s = l .before .before .before .before .before .before .before in
     let k = ap (λ (o : Opened). o .session .key) (l .before .before .«open» .ensures) in

@@ -8,12 +8,15 @@ use Rattle.wirecheck.proofs.setup.configuration.Reads as reads
 use Rattle.wirecheck.proofs.setup.configuration.Lts as lts
 use Rattle.layout.proofs.offset.MemoryOffset.new.Reads as new-reads
 use Rattle.wirecheck.proofs.setup.signature.Reads as signature-reads
+
 new-requires : tie.Need-new-requires
 new-requires c κs = search needs
+
 signature-requires : tie.Need-signature-requires
 signature-requires c κs = search needs
+
 returns : tie.Need-returns
-returns c = 
+returns c =
     let e : _≡_ {A = MemoryOffset} (c .before .new .result) (record { 0 = 0 }) = ap (λ (n : ℕ). record { 0 = n }) (c .before .new .ensures) in
     rw (c .signature .ensures, e)
 
