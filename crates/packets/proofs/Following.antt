@@ -114,28 +114,28 @@ module _ (k : Key) (atOpen : List ℕ) (start : LayoutOffset) (count : ℕ) (c :
     unfolding at
     ended = record { done = refl; key = refl; stands = stands; calls = came-record k _ c (admitted k (length atOpen) (start .0) count c o .configured) }
 
+    -- the session after an accepted packet
+    session-next : (bytes : List ℕ) → further (at came) (fed (ruleOf (at came)) (at came .progress) bytes) ≡ at (came ++ bytes)
+    unfolding at
+    session-next bytes =
+        ap (λ (p : Progress). record { key = k; start = start; length = count; progress = p }) (sym (fed-append (receiveRule (k .signature)) (begun (receiveRule (k .signature)) Empty) came bytes))
+
+    -- memory after it
+    memory-next : (bytes : List ℕ) → scattered (shown came) (drop (start .0 + written (ruleOf (at came)) (at came .progress)) (places (k .layout))) (emitted (ruleOf (at came)) (at came .progress) bytes) ≡ shown (came ++ bytes)
+    unfolding at shown
+    memory-next bytes =
+        let r = receiveRule (k .signature) in
+        let w = fed-after r (begun r Empty) (begun-in-step (at came) from-calls) (some-unit (at came) from-calls) came .2 in
+        let e : start .0 + written r (fed r (begun r Empty) came) ≡ start .0 + length (emitted r (begun r Empty) came) = omega (arith, w, zero-mul (outUnit r)) in
+        rw (e, emitted-append r (begun r Empty) came bytes)
+        (sym (scattered-append atOpen (drop (start .0) (places (k .layout))) (emitted r (begun r Empty) came) (emitted r (fed r (begun r Empty) came) bytes) ∙ rw (drop-drop (length (emitted r (begun r Empty) came)) (start .0) (places (k .layout)))))
+
     module _ (bytes : List ℕ) (d : Bytes bytes) (l : length came + length bytes ≤ streamLength (k .signature .wire) count) where
       more-bytes : Bytes (came ++ bytes)
       more-bytes = bytes-append came bytes b d
 
       more-length : length (came ++ bytes) ≤ streamLength (k .signature .wire) count
       more-length = rw (length-append came bytes) l
-
-      -- the session after an accepted packet
-      session-next : further (at came) (fed (ruleOf (at came)) (at came .progress) bytes) ≡ at (came ++ bytes)
-      unfolding at
-      session-next =
-          ap (λ (p : Progress). record { key = k; start = start; length = count; progress = p }) (sym (fed-append (receiveRule (k .signature)) (begun (receiveRule (k .signature)) Empty) came bytes))
-
-      -- memory after it
-      memory-next : scattered (shown came) (drop (start .0 + written (ruleOf (at came)) (at came .progress)) (places (k .layout))) (emitted (ruleOf (at came)) (at came .progress) bytes) ≡ shown (came ++ bytes)
-      unfolding at shown
-      memory-next =
-          let r = receiveRule (k .signature) in
-          let w = fed-after r (begun r Empty) (begun-in-step (at came) from-calls) (some-unit (at came) from-calls) came .2 in
-          let e : start .0 + written r (fed r (begun r Empty) came) ≡ start .0 + length (emitted r (begun r Empty) came) = omega (arith, w, zero-mul (outUnit r)) in
-          rw (e, emitted-append r (begun r Empty) came bytes)
-          (sym (scattered-append atOpen (drop (start .0) (places (k .layout))) (emitted r (begun r Empty) came) (emitted r (fed r (begun r Empty) came) bytes) ∙ rw (drop-drop (length (emitted r (begun r Empty) came)) (start .0) (places (k .layout)))))
 
       accepted-next : Accepted k atOpen (start .0) count (came ++ bytes)
           (record {
@@ -176,13 +176,13 @@ module _ (k : Key) (atOpen : List ℕ) (start : LayoutOffset) (count : ℕ) (c :
         let f : fed (receiveRule (k .signature)) (fed (receiveRule (k .signature)) (begun (receiveRule (k .signature)) Empty) came) bytes ≡ fed (receiveRule (k .signature)) (begun (receiveRule (k .signature)) Empty) (came ++ bytes) =
         sym (fed-append (receiveRule (k .signature)) (begun (receiveRule (k .signature)) Empty) came bytes) in
         let a = ea ∙ packed-done (at came) (length (shown came)) bytes e in
-        let m = em ∙ (memory-done (at came) (shown came) bytes e ∙ memory-next bytes d l) in
+        let m = em ∙ (memory-done (at came) (shown came) bytes e ∙ memory-next bytes) in
         record {
           ruled = sym (packet-ruled (length (shown came)) (length bytes)) ∙ e;
           fits = more-length bytes d l;
           bytesNow = more-bytes bytes d l;
           accepted = rw (a, m, f) (accepted-next bytes d l);
-          session = ap (λ (p : Packed). p .session) a ∙ session-next bytes d l;
+          session = ap (λ (p : Packed). p .session) a ∙ session-next bytes;
           memory = m;
         }
 
@@ -290,12 +290,24 @@ module _ (k : Key) (atOpen : List ℕ) (start : LayoutOffset) (count : ℕ) (c :
   -- the session that an accepted packet returns
   pub next-session : (m : ℕ) → m ≡ k .«memory_length» → (bytes : List ℕ) → length came + length bytes ≤ streamLength (k .signature .wire) count
       → packing (sessionAt k atOpen start count c o g came) m bytes .session ≡ sessionAt k atOpen start count c o g (came ++ bytes)
+  unfolding at
   next-session m e bytes l =
       let s = sessionAt k atOpen start count c o g came in
       let t = taken-all s (session-at k atOpen start count c o g came b h) came b h in
       let a : packetAnswer s m (length bytes) ≡ Done = sym (answer-0 s m (length bytes) e (length came) (streamLength (k .signature .wire) count) (sym t) refl h (omega arith)) in
-      ap (λ (p : Packed). p .session) (packed-done s m bytes a)
-      ∙ ap (λ (p : Progress). record { key = k; start = start; length = count; progress = p }) (sym (fed-append (receiveRule (k .signature)) (begun (receiveRule (k .signature)) Empty) came bytes))
+      ap (λ (p : Packed). p .session) (packed-done s m bytes a) ∙ session-next k atOpen start count c o g came b h bytes
+
+  -- memory after an accepted packet, lent as it stands
+  pub next-memory : (now : List ℕ) → now ≡ scattered atOpen (drop (start .0) (places (k .layout))) (emitted (receiveRule (k .signature)) (begun (receiveRule (k .signature)) Empty) came)
+      → length now ≡ k .«memory_length» → (bytes : List ℕ) → length came + length bytes ≤ streamLength (k .signature .wire) count
+      → memoryPacked (sessionAt k atOpen start count c o g came) now bytes
+      ≡ scattered atOpen (drop (start .0) (places (k .layout))) (emitted (receiveRule (k .signature)) (begun (receiveRule (k .signature)) Empty) (came ++ bytes))
+  unfolding at shown
+  next-memory now en e bytes l =
+      let s = sessionAt k atOpen start count c o g came in
+      let t = taken-all s (session-at k atOpen start count c o g came b h) came b h in
+      let a : packetAnswer s (length now) (length bytes) ≡ Done = sym (answer-0 s (length now) (length bytes) e (length came) (streamLength (k .signature .wire) count) (sym t) refl h (omega arith)) in
+      memory-done s now bytes a ∙ rw en (memory-next k atOpen start count c o g came b h bytes)
 
   -- finish once all came: one receive's key
   pub finish-key : length came ≡ streamLength (k .signature .wire) count

@@ -10,7 +10,8 @@ use borrow.Author.Tests.{eq-eqb, le-ltb, eqb-true, ltb-false}
 use Rattle.guard.specs.Guards.{Bytes}
 use Rattle.field.specs.Tests.{or, not}
 use Rattle.field.specs.Output.{copyMask}
-use Rattle.layout.specs.Pieces.{total}
+use Rattle.layout.specs.Pieces.{total, places}
+use Rattle.layout.proofs.MoveLaws.{scattered-none}
 use Rattle.layout.proofs.PieceLaws.{one-total}
 use Rattle.key.specs.declared.Key.{Key}
 use Rattle.key.specs.declared.Configuration.{Configuration}
@@ -26,17 +27,17 @@ use Rattle.key.specs.Configuring.{configureAnswer}
 use Rattle.key.specs.Streams.{streamLength}
 use Rattle.key.specs.Admitting.{openAnswer}
 use Rattle.key.proofs.Laws.{came-fresh, came-configuring}
-use Rattle.engine.specs.Feeding.{begun, fed}
+use Rattle.engine.specs.Feeding.{begun, fed, emitted}
 use Rattle.engine.proofs.Feeding.{bytes-first, nothing}
 use Rattle.transfer.specs.Rules.{receiveRule, Ranged}
-use Rattle.transfer.specs.Transferring.{receiving}
+use Rattle.transfer.specs.Transferring.{receiving, memoryReceived}
 use Rattle.packets.specs.declared.Session.{Session}
 use Rattle.packets.specs.declared.Opened.{Opened}
-use Rattle.packets.specs.Sessions.{packing, finishing, opening, SessionFromCalls}
-use Rattle.packets.proofs.RuleLaws.{session-at}
-use Rattle.packets.proofs.Following.{next-session, finish-key}
+use Rattle.packets.specs.Sessions.{packing, memoryPacked, finishing, opening, SessionFromCalls}
+use Rattle.packets.proofs.RuleLaws.{session-at, stands-at}
+use Rattle.packets.proofs.Following.{next-session, next-memory, finish-key}
 use Rattle.wirecheck.specs.declared.Answer.the-variants as answer
-use Rattle.wirecheck.specs.Checking.{signatureA, configurationA, received, found, badInput, checkOf, Receivable, Along}
+use Rattle.wirecheck.specs.Checking.{signatureA, configurationA, received, found, badInput, checkOf, memoryOf, Receivable, Along}
 
 abbrev keyA : ℕ → Key
 keyA m = configuredKey freshKey m configurationA
@@ -80,15 +81,15 @@ module _ (k : Key) (m n : ℕ) (R : Receivable k m n) where
 -- ---- packet by packet
 
 module _ (k : Key) (memory wire : List ℕ) (R : Receivable k (length memory) (length wire)) (b : Bytes wire) where
-  along-start : (s : Session) → s ≡ opening k (length memory) (record { 0 = 0 }) (length wire / 2) .session → Along k wire s wire
-  unfolding fed
-  along-start s e = record { came = []; split = refl; session = e }
+  along-start : (s : Session) → s ≡ opening k (length memory) (record { 0 = 0 }) (length wire / 2) .session → Along k memory wire s wire memory
+  unfolding fed emitted
+  along-start s e = record { came = []; split = refl; session = e; shown = sym (scattered-none memory (drop 0 (places (k .layout)))) }
 
   pub opened-along : (o : Opened) → o ≡ opening k (length memory) (record { 0 = 0 }) (length wire / 2)
-      → Receivable (o .session .key) (length memory) (length wire) × Along (o .session .key) wire (o .session) wire
+      → Receivable (o .session .key) (length memory) (length wire) × Along (o .session .key) memory wire (o .session) wire memory
   opened-along o e = rw e (R, along-start (opening k (length memory) (record { 0 = 0 }) (length wire / 2) .session) refl)
 
-  module _ (s : Session) (rest : List ℕ) (A : Along k wire s rest) where
+  module _ (s : Session) (rest now : List ℕ) (A : Along k memory wire s rest now) where
     fits : length (A .came) + length rest ≡ length wire
     fits = sym (length-append (A .came) rest) ∙ ap length (A .split)
 
@@ -103,25 +104,42 @@ module _ (k : Key) (memory wire : List ℕ) (R : Receivable k (length memory) (l
     along-session =
         rw (A .session) (session-at k memory (record { 0 = 0 }) (length wire / 2) (came k _ _ R) (open-done k _ _ R) (key-ranged k _ _ R) (A .came) bytes-came short)
 
+    more : (n : ℕ) → length (A .came) + length (take n rest) ≤ streamLength (k .signature .wire) (length wire / 2)
+    more n = rw (wire-length k (length memory) (length wire) R) (omega (arith, fits, length-take n rest))
+
     -- a packet further
-    pub along-next : (m n : ℕ) → m ≡ length memory → (s′ : Session) → s′ ≡ packing s m (take n rest) .session → Along k wire s′ (drop n rest)
-    along-next m n e s′ f = record {
+    pub along-next : (n : ℕ) → length now ≡ length memory → (s′ : Session) → s′ ≡ packing s (length now) (take n rest) .session
+        → (after : List ℕ) → after ≡ memoryPacked s now (take n rest) → Along k memory wire s′ (drop n rest) after
+    along-next n e s′ f after g = record {
       came = A .came ++ take n rest;
       split = append-assoc (A .came) (take n rest) (drop n rest) ∙ (ap (λ (l : List ℕ). A .came ++ l) (take-append-drop n rest) ∙ A .split);
       session =
           f ∙ rw (A .session)
-          (next-session k memory (record { 0 = 0 }) (length wire / 2) (came k _ _ R) (open-done k _ _ R) (key-ranged k _ _ R) (A .came) bytes-came short m (e ∙ memory-length k _ _ R) (take n rest)
-          (rw (wire-length k (length memory) (length wire) R) (omega (arith, fits, length-take n rest))));
+          (next-session k memory (record { 0 = 0 }) (length wire / 2) (came k _ _ R) (open-done k _ _ R) (key-ranged k _ _ R) (A .came) bytes-came short (length now) (e ∙ memory-length k _ _ R) (take n rest) (more n));
+      shown =
+          g ∙ rw (A .session)
+          (next-memory k memory (record { 0 = 0 }) (length wire / 2) (came k _ _ R) (open-done k _ _ R) (key-ranged k _ _ R) (A .came) bytes-came short now (A .shown) (e ∙ memory-length k _ _ R) (take n rest) (more n));
     }
 
-    -- all came: one receive's key
-    pub along-end : length rest ≡ 0 → finishing s .key ≡ received k memory wire
-    along-end e =
-        let all : A .came ≡ wire = sym (append-nil (A .came)) ∙ (ap (λ (l : List ℕ). A .came ++ l) (sym (nothing rest e)) ∙ A .split) in
-        ap (λ (x : Session). finishing x .key) (A .session)
-        ∙ (finish-key k memory (record { 0 = 0 }) (length wire / 2) (came k _ _ R) (open-done k _ _ R) (key-ranged k _ _ R) (A .came) bytes-came short
-        (rw (wire-length k (length memory) (length wire) R) (omega (arith, fits)))
-        ∙ ap (λ (l : List ℕ). receiving k memory l 0 (length wire / 2) .key) all)
+    -- all came: one receive's key and memory
+    module _ (e : length rest ≡ 0) where
+      all : A .came ≡ wire
+      all = sym (append-nil (A .came)) ∙ (ap (λ (l : List ℕ). A .came ++ l) (sym (nothing rest e)) ∙ A .split)
+
+      all-came : length (A .came) ≡ streamLength (k .signature .wire) (length wire / 2)
+      all-came = rw (wire-length k (length memory) (length wire) R) (omega (arith, fits))
+
+      pub along-end : finishing s .key ≡ received k memory wire
+      along-end =
+          ap (λ (x : Session). finishing x .key) (A .session)
+          ∙ (finish-key k memory (record { 0 = 0 }) (length wire / 2) (came k _ _ R) (open-done k _ _ R) (key-ranged k _ _ R) (A .came) bytes-came short all-came
+          ∙ ap (λ (l : List ℕ). receiving k memory l 0 (length wire / 2) .key) all)
+
+      pub along-memory : now ≡ memoryReceived k memory wire 0 (length wire / 2)
+      along-memory =
+          A .shown
+          ∙ (stands-at k memory (record { 0 = 0 }) (length wire / 2) (came k _ _ R) (open-done k _ _ R) (key-ranged k _ _ R) (A .came) bytes-came short .whole all-came .0
+          ∙ ap (λ (l : List ℕ). memoryReceived k memory l 0 (length wire / 2)) all)
 
 -- ---- the answer
 
@@ -135,9 +153,10 @@ module _ (wire : List ℕ) (more : Bool) (memory : List ℕ) (good : badInput wi
   outcome-is : configuring freshKey (length memory) configurationA .outcome ≡ d .outcome
   outcome-is = ap (λ (x : Configured). x .outcome) (sym e)
 
-  pub check-refused : (r : Refusal) → d .outcome ≡ Refused r → (n : ℕ) → n ≡ number (d .outcome) → answer.Refused n ≡ checkOf wire more memory
-  unfolding checkOf
-  check-refused r o n f = rw (good, f, outcome-is, o)
+  pub check-refused : (r : Refusal) → d .outcome ≡ Refused r → (n : ℕ) → n ≡ number (d .outcome)
+      → (answer.Refused n ≡ checkOf wire more memory) × (memory ≡ memoryOf wire more memory)
+  unfolding checkOf memoryOf
+  check-refused r o n f = (rw (good, f, outcome-is, o), rw (good, outcome-is, o))
 
   pub check-asks : d .outcome ≡ Done → Receivable (d .key) (length memory) (length wire)
   check-asks o =
@@ -149,3 +168,9 @@ module _ (wire : List ℕ) (more : Bool) (memory : List ℕ) (good : badInput wi
   check-found o k g f h =
       let y : configuring freshKey (length memory) configurationA .key ≡ d .key = ap (λ (x : Configured). x .key) (sym e) in
       rw (good, outcome-is, o, y) (ap found h ∙ ap (λ (x : Key). found (checking x (x .slot))) g)
+
+  pub memory-found : d .outcome ≡ Done → (after : List ℕ) → after ≡ memoryReceived (d .key) memory wire 0 (length wire / 2) → after ≡ memoryOf wire more memory
+  unfolding memoryOf
+  memory-found o after g =
+      let y : configuring freshKey (length memory) configurationA .key ≡ d .key = ap (λ (x : Configured). x .key) (sym e) in
+      rw (good, outcome-is, o, y) g

@@ -4,8 +4,10 @@ use mathlib.Core.Bool.{Bool}
 use mathlib.Core.List.{List, _++_}
 use Prim.Native.Nat.{ℕ, _/_, _%_, _≤_}
 use lib.Dec.{eqb, ltb}
-use lib.ListN.{length, replicate}
+use lib.ListN.{length, drop, replicate}
 use Rattle.field.specs.Tests.{or, not, pick}
+use Rattle.layout.specs.Pieces.{places}
+use Rattle.layout.specs.Moves.{scattered}
 use Rattle.key.specs.declared.Key.{Key}
 use Rattle.key.specs.declared.Signature.{Signature}
 use Rattle.key.specs.declared.Configuration.{Configuration}
@@ -16,9 +18,9 @@ use Rattle.key.specs.declared.Outcome.the-variants.{Done, Refused}
 use Rattle.key.specs.Numbers.{refusalNumber}
 use Rattle.key.specs.Keys.{noDomain, freshKey, configuring, checking}
 use Rattle.key.specs.declared.Slot.the-variants.{Empty}
-use Rattle.engine.specs.Feeding.{begun, fed}
+use Rattle.engine.specs.Feeding.{begun, fed, emitted}
 use Rattle.transfer.specs.Rules.{receiveRule}
-use Rattle.transfer.specs.Transferring.{receiving}
+use Rattle.transfer.specs.Transferring.{receiving, memoryReceived}
 use Rattle.packets.specs.declared.Session.{Session}
 use Rattle.wirecheck.specs.declared.Answer.{Answer}
 use Rattle.wirecheck.specs.declared.Answer.the-variants as answer
@@ -66,6 +68,16 @@ checkOf wire more memory =
     pick (badInput wire more) (answer.Refused 9)
     (answerBy (configuring freshKey (length memory) configurationA .outcome) (configuring freshKey (length memory) configurationA .key) memory wire)
 
+-- and the memory that one receive leaves
+abbrev pub memoryBy : Outcome → Key → List ℕ → List ℕ → List ℕ
+memoryBy Done k memory wire = memoryReceived k memory wire 0 (length wire / 2)
+memoryBy (Refused r) k memory wire = memory
+
+unfoldable pub memoryOf : List ℕ → Bool → List ℕ → List ℕ
+memoryOf wire more memory =
+    pick (badInput wire more) memory
+    (memoryBy (configuring freshKey (length memory) configurationA .outcome) (configuring freshKey (length memory) configurationA .key) memory wire)
+
 -- What receiving in packets asks: a key configured so, and a wire of whole units that fits.
 pub record Receivable (k : Key) (memory wire : ℕ) : Type 0 where
   pub key : k ≡ configuring freshKey memory configurationA .key
@@ -77,8 +89,13 @@ pub record Receivable (k : Key) (memory wire : ℕ) : Type 0 where
 abbrev pub sessionAfter : Key → ℕ → List ℕ → Session
 sessionAfter k count came = record { key = k; start = record { 0 = 0 }; length = count; progress = fed (receiveRule (k .signature)) (begun (receiveRule (k .signature)) Empty) came }
 
+-- and memory
+abbrev pub memoryWith : Key → List ℕ → List ℕ → List ℕ
+memoryWith k memory came = scattered memory (drop 0 (places (k .layout))) (emitted (receiveRule (k .signature)) (begun (receiveRule (k .signature)) Empty) came)
+
 -- On the way: what came and what is left are the wire.
-pub record Along (k : Key) (wire : List ℕ) (s : Session) (rest : List ℕ) : Type 0 where
+pub record Along (k : Key) (memory wire : List ℕ) (s : Session) (rest now : List ℕ) : Type 0 where
   pub came : List ℕ
   pub split : came ++ rest ≡ wire
   pub session : s ≡ sessionAfter k (length wire / 2) came
+  pub shown : now ≡ memoryWith k memory came

@@ -1,7 +1,8 @@
 // The check.
 ghost use mathlib.Core.Path.{_≡_};
-ghost use Prim.Native.Nat.{min};
+ghost use Prim.Native.Nat.{min, _/_};
 ghost use lib.ListN.{length};
+ghost use Rattle.transfer.specs.Transferring.{memoryReceived};
 ghost use Rattle.wirecheck.specs.Checking as checking;
 ghost use Rattle.wirecheck.specs.Checking.{Receivable};
 use crate::Answer;
@@ -21,6 +22,7 @@ fn lesser(a: usize, b: usize) -> usize
 fn receive_in_packets(key: Key, wire: &[u8], memory: &mut [u8]) -> Key
     requires { ⌜ Receivable key (length (now memory)) (length (now wire)) ⌝ }
     ensures { λ r. ⌜ r ≡ checking.received key (now (memory .entry)) (now (wire .entry)) ⌝ }
+    ensures { λ _. ⌜ now (memory .exit) ≡ memoryReceived key (now (memory .entry)) (now (wire .entry)) 0 (length (now (wire .entry)) / 2) ⌝ }
 {
     let opened = packets::open(key, memory, LayoutOffset::new(0), wire.len() as u64 / 2);
     let mut session = opened.session;
@@ -38,6 +40,7 @@ fn receive_in_packets(key: Key, wire: &[u8], memory: &mut [u8]) -> Key
 // Checks the fields of a wire, which the caller read into a buffer; more says that there was more than the buffer holds.
 pub fn check_wire(wire: &[u8], more: bool, memory: &mut [u8]) -> Answer
     ensures { λ r. ⌜ r ≡ checking.checkOf (now (wire .entry)) more (now (memory .entry)) ⌝ }
+    ensures { λ _. ⌜ now (memory .exit) ≡ checking.memoryOf (now (wire .entry)) more (now (memory .entry)) ⌝ }
 {
     if more | ((65536 < wire.len()) | (wire.len() % 16 != 0)) {
         return Answer::Refused(9);

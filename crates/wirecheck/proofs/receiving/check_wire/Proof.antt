@@ -1,6 +1,6 @@
-use Rattle.wirecheck.proofs.Laws.{check-refused, check-asks, check-found}
+use Rattle.wirecheck.proofs.Laws.{check-refused, check-asks, check-found, memory-found}
 use mathlib.Core.Path.{_≡_, sym, ap, _∙_}
-use Rattle.wirecheck.specs.Checking.{checkOf}
+use Rattle.wirecheck.specs.Checking.{checkOf, memoryOf}
 use borrow.Author.Needs.{needs}
 use Rattle.wirecheck.proofs.receiving.check_wire.Statement.{statement}
 use Rattle.wirecheck.proofs.receiving.check_wire.Tie as tie
@@ -14,8 +14,8 @@ use Rattle.wirecheck.proofs.receiving.receive_in_packets.Reads as recei
 use Rattle.wirecheck.proofs.setup.configuration.Reads as configuration-reads
 
 returns : tie.Need-returns
-unfolding checkOf
-returns c = rw (c .if1 .taken)
+unfolding checkOf memoryOf
+returns c = (rw (c .if1 .taken), rw (c .if1 .taken))
 
 fresh-requires : tie.Need-fresh-requires
 fresh-requires c κs = search needs
@@ -58,8 +58,11 @@ same-length-2 c = search needs
 returns-3 : tie.Need-returns-3
 returns-3 c =
     let f = c .before .before .before .before .before .before .before in
-    check-found _ _ _ (f .before .before .before .before .if1 .left) _ (rw (f .before .configuration .ensures, f .before .before .before .fresh .ensures) at (f .configure .ensures))
-    (c .before .before .before .before .before .enum-told .given .1) _ (c .before .before .before .receive-in-packets .ensures) _ (c .check .ensures)
+    let g = f .before .before .before .before .if1 .left in
+    let e = rw (f .before .configuration .ensures, f .before .before .before .fresh .ensures) at (f .configure .ensures) in
+    let o = c .before .before .before .before .before .enum-told .given .1 in
+    let r = c .before .before .before .receive-in-packets .ensures in
+    (check-found _ _ _ g _ e o _ (r .0) _ (c .check .ensures), memory-found _ _ _ g _ e o _ (r .1))
 
 pub check-wire-spec : {M : Type 1} → statement M
 check-wire-spec =

@@ -1,19 +1,21 @@
 use Rattle.wirecheck.specs.Checking.{Receivable}
 use mathlib.Core.Path.{_≡_, refl, sym, ap, _∙_}
-use Prim.Native.Nat.{ℕ, _-_}
+use Prim.Native.Nat.{ℕ, _-_, _/_}
 use native.Mathlib.Nat.{sub-zero}
 use native.Mathlib.Omega.{arith}
 use borrow.Author.Needs.{needs}
 use borrow.Rule.Slice.PartAt.{part-to-end}
 use lib.ListN.{length, length-drop}
+use Rattle.guard.specs.Guards.{Bytes}
 use Rattle.layout.specs.declared.offset.LayoutOffset.{LayoutOffset}
+use Rattle.transfer.specs.Transferring.{memoryReceived}
 use Rattle.packets.specs.Sessions.{packing}
 use Rattle.packets.specs.declared.Opened.{Opened}
 use Rattle.packets.specs.declared.Packed.{Packed}
 use Rattle.packets.specs.declared.Finished.{Finished}
 use Rattle.key.specs.declared.Key.{Key}
 use Rattle.wirecheck.specs.Checking.{Along, received}
-use Rattle.wirecheck.proofs.Laws.{came, opened-along, along-session, along-next, along-end}
+use Rattle.wirecheck.proofs.Laws.{came, opened-along, along-session, along-next, along-end, along-memory}
 use Rattle.wirecheck.proofs.receiving.receive_in_packets.Statement.{statement}
 use Rattle.wirecheck.proofs.receiving.receive_in_packets.Tie as tie
 use Rattle.wirecheck.proofs.receiving.receive_in_packets.Reads as reads
@@ -25,7 +27,7 @@ use Rattle.packets.proofs.packet.Reads as packet-reads
 use Rattle.wirecheck.proofs.receiving.lesser.Reads as lesser-reads
 
 abbrev Inv-loop : tie.InvT-loop
-Inv-loop wire memory₀ session₀ rest₀ memory session rest = Receivable (session₀ .key) (length memory₀) (length wire) × Along (session₀ .key) wire session rest × (length memory ≡ length memory₀)
+Inv-loop wire memory₀ session₀ rest₀ memory session rest = Receivable (session₀ .key) (length memory₀) (length wire) × Along (session₀ .key) memory₀ wire session rest memory × (length memory ≡ length memory₀)
 
 abbrev μ-loop : tie.MeasureT-loop
 μ-loop wire memory₀ session₀ rest₀ memory session rest = length rest
@@ -59,7 +61,7 @@ packet-requires : tie.Need-packet-requires Inv-loop μ-loop
 packet-requires c κs =
     let l = c .before .before .before .before in
     let s = l .before .before .before .before .before .before .before in
-    along-session _ (s .args .memory .now) (s .args .wire .now) (l .loop .inv .0) (λ i. l .before .before .before .before .before .before .shared-slice-known .given i .fits) _ _ (l .loop .inv .1)
+    along-session _ (s .args .memory .now) (s .args .wire .now) (l .loop .inv .0) (λ i. l .before .before .before .before .before .before .shared-slice-known .given i .fits) _ _ _ (l .loop .inv .1)
 
 sub-rest : tie.Need-sub-rest Inv-loop μ-loop
 sub-rest c = omega (arith, c .before .before .before .before .before .before .lesser .ensures)
@@ -84,8 +86,8 @@ loop-again c =
     let p = c .before .before .before .before .packet in
     rw (part-to-end (l .loop .rest .now) (n .result)) (
       l .loop .inv .0,
-      along-next _ (s .args .memory .now) (s .args .wire .now) (l .loop .inv .0) (λ i. l .before .before .before .before .before .before .shared-slice-known .given i .fits) _ _ (l .loop .inv .1)
-          _ (n .result) (l .loop .inv .2) _ (ap (λ (q : Packed). q .session) (rw (sub-zero (n .result)) at (p .ensures .0))),
+      along-next _ (s .args .memory .now) (s .args .wire .now) (l .loop .inv .0) (λ i. l .before .before .before .before .before .before .shared-slice-known .given i .fits) _ _ _ (l .loop .inv .1)
+          (n .result) (l .loop .inv .2) _ (ap (λ (q : Packed). q .session) (rw (sub-zero (n .result)) at (p .ensures .0))) _ (rw (sub-zero (n .result)) at (p .ensures .1)),
       p .kept .1 .0 ∙ l .loop .inv .2,
     )
 
@@ -93,7 +95,7 @@ finish-requires : tie.Need-finish-requires Inv-loop μ-loop
 finish-requires c κs =
     let l = c .before in
     let s = l .before .before .before .before .before .before .before in
-    along-session _ (s .args .memory .now) (s .args .wire .now) (l .loop .inv .0) (λ i. l .before .before .before .before .before .before .shared-slice-known .given i .fits) _ _ (l .loop .inv .1)
+    along-session _ (s .args .memory .now) (s .args .wire .now) (l .loop .inv .0) (λ i. l .before .before .before .before .before .before .shared-slice-known .given i .fits) _ _ _ (l .loop .inv .1)
 
 same-length : tie.Need-same-length Inv-loop μ-loop
 same-length c = c .before .before .before .loop .inv .2
@@ -103,9 +105,12 @@ returns c =
     let l = c .before .before .before in
     let s = l .before .before .before .before .before .before .before in
     let k = ap (λ (o : Opened). o .session .key) (l .before .before .«open» .ensures) in
-    ap (λ (f : Finished). f .key) (c .before .finish .ensures)
-    ∙ (along-end _ (s .args .memory .now) (s .args .wire .now) (l .loop .inv .0) (λ i. l .before .before .before .before .before .before .shared-slice-known .given i .fits) _ _ (l .loop .inv .1) (omega (arith, c .before .before .loop-test .left))
-    ∙ ap (λ (x : Key). received x (s .args .memory .now) (s .args .wire .now)) k)
+    let b : Bytes (s .args .wire .now) = λ i. l .before .before .before .before .before .before .shared-slice-known .given i .fits in
+    let z : length (l .loop .rest .now) ≡ 0 = omega (arith, c .before .before .loop-test .left) in (
+      ap (λ (f : Finished). f .key) (c .before .finish .ensures)
+          ∙ (along-end _ (s .args .memory .now) (s .args .wire .now) (l .loop .inv .0) b _ _ _ (l .loop .inv .1) z ∙ ap (λ (x : Key). received x (s .args .memory .now) (s .args .wire .now)) k),
+      along-memory _ (s .args .memory .now) (s .args .wire .now) (l .loop .inv .0) b _ _ _ (l .loop .inv .1) z ∙ ap (λ (x : Key). memoryReceived x (s .args .memory .now) (s .args .wire .now) 0 (length (s .args .wire .now) / 2)) k,
+    )
 
 pub receive-in-packets-spec : {M : Type 1} → statement M
 receive-in-packets-spec =
