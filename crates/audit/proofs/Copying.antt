@@ -17,7 +17,6 @@ use Rattle.field.specs.Domains.{signed, remaps}
 use Rattle.field.specs.Fields.{bytesOf, bytesIn, fieldOf}
 use Rattle.field.specs.Output.{agreed, copyMask, merged, outputField}
 use Rattle.layout.specs.Pieces.{places}
-use Rattle.layout.specs.Moves.{gathered}
 use Rattle.layout.proofs.MoveLaws.{length-gathered, gathered-at}
 use Rattle.key.specs.declared.Key.{Key}
 use Rattle.key.specs.Streams.{streamLength}
@@ -31,6 +30,7 @@ use Rattle.engine.proofs.Settling.{bytes-take}
 use Rattle.transfer.specs.Rules.{sendRule, receiveRule, outputOf}
 use Rattle.transfer.specs.Transferring.{memoryStream, wireStream}
 use Rattle.transfer.proofs.Laws.{Agree, agree-back, stream-units}
+use Rattle.transfer.proofs.SendLaws.{bytes-gathered}
 use Rattle.audit.specs.Copying.{fieldByte, SendCopies, ReceiveCopies, SendKeepsGuard, ReceiveKeepsGuard}
 use Rattle.audit.proofs.FieldBytes.{split-joined, found-bytes}
 use Rattle.audit.proofs.Destination.{output-units, block-size, unit-size, told, memory-length, wire-length, send-fills, receive-fills}
@@ -118,12 +118,6 @@ copied-at r count z g stream l b s t y y′ j h k i c =
     ap (λ (p : ℕ). getD (outputOf r stream count) p 0) (sym here) ∙ copied-on r count g stream l b s t j (rw v h) k i c ∙ ap (λ (p : ℕ). getD stream p 0) there
 
 -- ---- of accepted transfers
-
-bytes-gathered : (m ps : List ℕ) → Bytes m → Bytes (gathered m ps)
-unfolding gathered
-bytes-gathered m [] b i = omega arith
-bytes-gathered m (p ∷ ps) b zero = b p
-bytes-gathered m (p ∷ ps) b (suc i) = bytes-gathered m ps b i
 
 module _ (k : Key) (memory wire : List ℕ) (x count : ℕ) where
   abbrev z : ℕ

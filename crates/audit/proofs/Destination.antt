@@ -19,13 +19,13 @@ use Rattle.key.specs.declared.Outcome.the-variants.{Done, Refused}
 use Rattle.key.specs.Keys.{CameFromCalls}
 use Rattle.key.specs.Streams.{streamLength}
 use Rattle.engine.specs.declared.Rule.{Rule}
-use Rattle.engine.specs.Streams.{blockSize, fieldSize, inBlock, inUnit, outBlock, outUnit, inputBlock}
+use Rattle.engine.specs.Streams.{fieldSize, inBlock, inUnit, outBlock, outUnit, inputBlock}
 use Rattle.engine.specs.Transfers.{joined, fieldBehind, outputStream}
 use Rattle.engine.specs.Standing.{unitOut}
-use Rattle.engine.proofs.Units.{unit-within, by-units}
+use Rattle.engine.proofs.Units.{block-length, by-units}
 use Rattle.transfer.specs.Rules.{sendRule, receiveRule, outputOf}
 use Rattle.transfer.specs.Transferring.{memoryStream, wireStream, answerOf, wireSent, memoryReceived}
-use Rattle.transfer.proofs.Laws.{Agree, agree-back, stream-units, Accepted, accept, receive-refused}
+use Rattle.transfer.proofs.Laws.{Agree, agree-back, same-size, stream-units, Accepted, accept, receive-refused}
 use Rattle.transfer.proofs.SendLaws.{send-refused}
 use Rattle.audit.specs.Destination.{sendOutput, receiveOutput, SendFills, ReceiveFills, RefusedSend, RefusedReceive}
 
@@ -48,14 +48,7 @@ field-length r stream i block = go (signed (r .output)) refl
 module _ (r : Rule) (count : ℕ) (g : Agree (r .input) (r .output) count) (stream : List ℕ) (l : length stream ≡ streamLength (r .input) count) where
   -- both sides have blocks of one size
   same : outBlock r ≡ inBlock r
-  unfolding blockSize
-  same = go (signed (r .input)) (signed (r .output)) refl refl
-    where
-      go : (a b : Bool) → signed (r .input) ≡ a → signed (r .output) ≡ b → outBlock r ≡ inBlock r
-      go true true e f = rw (e, f) (sym (g .alike e f))
-      go true false e f = rw (e, f)
-      go false true e f = rw (e, f)
-      go false false e f = rw (e, f)
+  same = same-size (r .input) (r .output) count g
 
   all-units : count / inBlock r * inUnit r ≤ length stream
   all-units = omega (arith, stream-units (r .input) (r .output) count g)
@@ -64,11 +57,7 @@ module _ (r : Rule) (count : ℕ) (g : Agree (r .input) (r .output) count) (stre
   output-units = ap (λ (m : ℕ). outputStream r stream (count / inBlock r) (count / m)) same ∙ by-units r stream (count / inBlock r) same all-units
 
   pub block-size : (i : ℕ) → i < count / inBlock r → length (inputBlock r stream i) ≡ outBlock r
-  unfolding inputBlock
-  block-size i h =
-      length-take-le (inBlock r) (drop (i * inUnit r) stream)
-      (rw (length-drop (i * inUnit r) stream) (omega (arith, all-units, unit-within i (count / inBlock r) (inUnit r) h)))
-      ∙ sym same
+  block-size i h = block-length r stream (count / inBlock r) same all-units i h ∙ sym same
 
   pub unit-size : (i : ℕ) → i < 0 + count / inBlock r → length (unitOut r stream i) ≡ outUnit r
   unit-size i h =

@@ -2,12 +2,12 @@
 use mathlib.Core.Path.{_≡_, refl, sym, ap, _∙_}
 use mathlib.Core.Bool.{Bool, true, false}
 use mathlib.Core.List.{List, [], _∷_, _++_, append-assoc, append-nil}
-use Prim.Native.Nat.{ℕ, zero, suc, _+_, _-_, _*_, _≤_, _<_}
+use Prim.Native.Nat.{ℕ, _+_, _-_, _≤_, _<_}
 use native.Mathlib.Nat.{zero-mul}
 use native.Mathlib.Numerals.{add-one}
 use native.Mathlib.Omega.{arith}
-use lib.Dec.{eqb, ltb}
-use lib.ListN.{length, take, drop, set, length-append, length-take, length-drop, length-set, drop-of-length-le}
+use lib.Dec.{ltb}
+use lib.ListN.{length, take, drop, set, length-append, length-drop, length-set, drop-of-length-le}
 use lib.Seq.{take-all, take-nil, drop-nil, take-append-le, drop-append-le, take-suc-set}
 use borrow.Author.Tests.{ltb-true, ltb-false}
 use Rattle.guard.specs.declared.Running.{Running}
@@ -18,15 +18,13 @@ use Rattle.field.specs.Tests.{pick}
 use Rattle.field.specs.Domains.{signed}
 use Rattle.field.specs.Fields.{fieldOf}
 use Rattle.key.specs.declared.Slot.{Slot}
-use Rattle.key.specs.declared.Slot.the-variants.{Empty, Holding}
-use Rattle.key.specs.Keys.{keep}
+use Rattle.key.proofs.Laws.{keep-none}
 use Rattle.engine.specs.declared.Rule.{Rule}
 use Rattle.engine.specs.declared.Progress.{Progress}
 use Rattle.engine.specs.Streams.{fieldSize, inBlock, inUnit}
 use Rattle.engine.specs.Transfers.{joined, firstError}
 use Rattle.engine.specs.Feeding.{checksGuard, makesGuard, sideAfter, arrived, shown, begun}
-use Rattle.engine.specs.Standing.{Matched, running, unitOut, Reached}
-use Rattle.engine.proofs.Units.{keep-empty}
+use Rattle.engine.specs.Standing.{running, unitOut, Reached}
 
 pick-same : {A : Type 0} (b : Bool) (a : A) → pick b a a ≡ a
 pick-same true a = refl
@@ -67,7 +65,7 @@ module _ (r : Rule) (slot : Slot) where
     eight = refl;
     held = rw (drop-nil {A = ℕ} (inBlock r));
     bare = λ e. refl;
-    error = sym (keep-empty slot);
+    error = sym (keep-none slot);
     shown = rw (take-nil {A = ℕ} (inBlock r));
   }
 

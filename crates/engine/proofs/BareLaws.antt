@@ -1,27 +1,25 @@
 -- Where neither side is signed, each byte is a unit, and bytes go as they come. Assumes nothing.
 use mathlib.Core.Path.{_≡_, refl, sym, ap, _∙_}
-use mathlib.Core.Bool.{Bool, true, false}
+use mathlib.Core.Bool.{true}
 use mathlib.Core.List.{List, [], _∷_, _++_}
-use Prim.Native.Nat.{ℕ, zero, suc, _+_, _-_, _*_, _^_, _≤_, _<_}
+use Prim.Native.Nat.{ℕ, suc, _+_, _-_, _^_, _≤_, _<_}
 use native.Mathlib.Omega.{arith}
-use lib.Dec.{eqb, ltb}
-use lib.ListN.{length, take, drop, length-append}
+use lib.Dec.{ltb}
+use lib.ListN.{length, drop}
 use borrow.Author.Tests.{lt-ltb, eq-eqb}
-use Rattle.field.specs.Tests.{pick}
 use Rattle.field.specs.Domains.{signed}
-use Rattle.key.specs.declared.Slot.{Slot}
 use Rattle.key.specs.Keys.{keep}
+use Rattle.key.proofs.Laws.{keep-none}
 use Rattle.layout.specs.declared.Layout.{Layout}
 use Rattle.layout.specs.Pieces.{places, total}
 use Rattle.layout.specs.Moves.{scattered}
 use Rattle.layout.proofs.MoveLaws.{scattered-none}
 use Rattle.engine.specs.declared.Rule.{Rule}
 use Rattle.engine.specs.declared.Progress.{Progress}
-use Rattle.engine.specs.Streams.{blockSize, fieldSize, inBlock, inUnit, outUnit}
+use Rattle.engine.specs.Streams.{blockSize, fieldSize, inBlock, inUnit}
 use Rattle.engine.specs.Transfers.{errorBy}
-use Rattle.engine.specs.Feeding.{sideAt, arrived, whole, errorDue, fieldDue, settled, placed, shown, fed, emitted}
+use Rattle.engine.specs.Feeding.{sideAt, arrived, whole, errorDue, settled, placed, shown, fed, emitted}
 use Rattle.engine.specs.Parts.{written, InStep, Room, Fed, Bare, Countable}
-use Rattle.engine.proofs.Units.{keep-empty}
 use Rattle.engine.proofs.PartLaws.{countable}
 
 -- the progress n bytes further on
@@ -39,7 +37,7 @@ module _ (r : Rule) (b : Bare r) where
 
   no-error : (p : Progress) → keep (p .slot) (errorDue r p) ≡ p .slot
   unfolding errorDue errorBy
-  no-error p = rw (b .input) (keep-empty (p .slot))
+  no-error p = rw (b .input) (keep-none (p .slot))
 
   module _ (p : Progress) (h : p .input .at ≡ 0) (x : ℕ) where
     is-data : ltb (p .input .at) (inBlock r) ≡ true

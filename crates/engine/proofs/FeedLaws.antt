@@ -1,20 +1,21 @@
 -- Feeding a part, and then the rest. Assumes nothing.
 use mathlib.Core.Path.{_≡_, refl, sym, ap, _∙_}
-use mathlib.Core.Bool.{Bool, true, false}
 use mathlib.Core.List.{List, [], _∷_, _++_, append-nil}
-use Prim.Native.Nat.{ℕ, zero, suc, _+_, _-_, _*_, _^_, _≤_, _<_}
+use Prim.Native.Nat.{ℕ, _+_, _-_, _≤_, _<_}
 use native.Mathlib.Decide.{decLt}
 use native.Mathlib.Omega.{arith}
 use lib.ListN.{length, take, drop, length-append, take-append-drop}
 use lib.Seq.{drop-drop, length-take-le}
 use Rattle.layout.specs.declared.Layout.{Layout}
+use Rattle.key.specs.declared.Slot.{Slot}
 use Rattle.layout.specs.Pieces.{places, total}
-use Rattle.layout.specs.Moves.{Placed, scattered}
+use Rattle.layout.specs.Moves.{scattered}
 use Rattle.layout.proofs.MoveLaws.{scattered-append, scattered-none, length-scattered}
 use Rattle.engine.specs.declared.Rule.{Rule}
 use Rattle.engine.specs.declared.Progress.{Progress}
-use Rattle.engine.specs.Streams.{inBlock, inUnit, outUnit}
-use Rattle.engine.specs.Feeding.{arrived, settled, placed, shown, fed, emitted}
+use Rattle.engine.specs.Streams.{inBlock, inUnit}
+use Rattle.engine.specs.Feeding.{arrived, settled, placed, shown, fed, emitted, begun}
+use Rattle.engine.specs.Standing.{Matched}
 use Rattle.engine.specs.Parts.{dataTaken, fieldTaken, written, InStep, Room, Fed, Settled, Holds, OnePart, Going}
 use Rattle.engine.proofs.Arriving.{field-small}
 use Rattle.engine.proofs.PartLaws.{data-part, field-part, in-step-data, in-step-field, in-step-settled, written-settled}
@@ -82,6 +83,10 @@ module _ (r : Rule) (p : Progress) (xs : List ℕ) (some : 0 < length xs) (o : O
 
       pub field-done : (before : List ℕ) (q : Progress) (after : List ℕ) → Settled r (fieldTaken r p xs) l x before q after → Fed r p l x before xs q after
       field-done before q after S = record { progress = S .progress ∙ sym (field-fed h .0); memory = S .memory ∙ rw (field-fed h .1) }
+
+-- At the start the sides are in step.
+pub begun-in-step : (r : Rule) (slot : Slot) → Matched r → InStep r (begun r slot)
+begun-in-step r slot m = record { matched = m; index = refl; at = omega arith; within = omega arith; eight = refl }
 
 -- After any bytes too.
 pub fed-after : (r : Rule) (p : Progress) → InStep r p → p .input .at < inUnit r → (xs : List ℕ)

@@ -1,26 +1,22 @@
 -- Feeding bytes is the transfer rule, wherever the feeding stops. Assumes nothing.
 use mathlib.Core.Path.{_≡_, refl, sym, ap, _∙_}
-use mathlib.Core.Bool.{Bool, true, false}
 use mathlib.Core.List.{List, [], _∷_, _++_, append-assoc, append-nil}
-use Prim.Native.Nat.{ℕ, zero, suc, _+_, _-_, _*_, _≤_, _<_}
-use native.Mathlib.Nat.{suc-mul}
+use Prim.Native.Nat.{ℕ, zero, suc, _+_, _-_, _*_, _<_}
 use native.Mathlib.Decide.{decLt}
 use native.Mathlib.Omega.{arith}
-use lib.ListN.{length, take, drop, length-append}
+use lib.ListN.{length, length-append}
 use lib.Seq.{take-nil}
 use Rattle.guard.specs.Guards.{Bytes}
-use Rattle.field.specs.Tests.{pick}
 use Rattle.key.specs.declared.Slot.{Slot}
-use Rattle.key.specs.Keys.{keep}
 use Rattle.engine.specs.declared.Rule.{Rule}
 use Rattle.engine.specs.declared.Progress.{Progress}
-use Rattle.engine.specs.Streams.{inBlock, inUnit, outBlock, outUnit}
-use Rattle.engine.specs.Transfers.{joined, outputStream, firstError}
+use Rattle.engine.specs.Streams.{inBlock, inUnit}
+use Rattle.engine.specs.Transfers.{joined}
 use Rattle.engine.specs.Feeding.{arrived, settled, placed, shown, fed, emitted, begun}
 use Rattle.engine.specs.Standing.{Matched, unitOut, Reached, Finished}
 use Rattle.engine.proofs.Units.{by-units, unit-within}
 use Rattle.engine.proofs.Arriving.{reached-begun, reached-arrived}
-use Rattle.engine.proofs.Settling.{reached-settled, bytes-take}
+use Rattle.engine.proofs.Settling.{reached-settled}
 
 -- bytes joined to others are bytes
 pub bytes-first : (ys zs : List ℕ) → Bytes (ys ++ zs) → Bytes ys

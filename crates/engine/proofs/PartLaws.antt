@@ -2,13 +2,12 @@
 use mathlib.Core.Path.{_≡_, refl, sym, ap, _∙_}
 use mathlib.Core.Bool.{Bool, true, false}
 use mathlib.Core.List.{List, [], _∷_, _++_, append-assoc, append-nil}
-use Prim.Native.Nat.{ℕ, zero, suc, _+_, _-_, _*_, _^_, _≤_, _<_, min}
-use native.Mathlib.Nat.{suc-mul, add-zero, mul-le-mul, mul-le-mul-left}
+use Prim.Native.Nat.{ℕ, suc, _+_, _-_, _*_, _^_, _≤_, _<_}
+use native.Mathlib.Nat.{suc-mul, mul-le-mul, mul-le-mul-left}
 use native.Mathlib.Numerals.{add-one}
 use native.Mathlib.Omega.{arith}
-use lib.Dec.{eqb, ltb}
-use lib.ListN.{length, getD, take, drop, set, length-append, length-set, drop-of-length-le}
-use lib.Seq.{sets, drop-cons, drop-drop, length-sets}
+use lib.ListN.{length, getD, take, drop, set, drop-of-length-le}
+use lib.Seq.{sets, drop-cons, length-sets}
 use borrow.Author.Tests.{lt-ltb, le-ltb, eq-eqb, ne-eqb, eqb-true, eqb-false}
 use Rattle.guard.specs.declared.Running.{Running}
 use Rattle.guard.specs.Guards.{stepped, advanced}
@@ -19,13 +18,12 @@ use Rattle.field.specs.Fields.{bytesOf}
 use Rattle.layout.specs.Moves.{scattered}
 use Rattle.layout.specs.declared.Layout.{Layout}
 use Rattle.layout.specs.Pieces.{places}
-use Rattle.layout.proofs.MoveLaws.{scattered-append, scattered-none}
+use Rattle.layout.proofs.MoveLaws.{scattered-none}
 use Rattle.engine.specs.declared.Rule.{Rule}
 use Rattle.engine.specs.declared.Side.{Side}
 use Rattle.engine.specs.declared.Progress.{Progress}
-use Rattle.engine.specs.Streams.{fieldSize, inBlock, inUnit, outBlock, outUnit}
+use Rattle.engine.specs.Streams.{fieldSize, inBlock, inUnit, outUnit}
 use Rattle.engine.specs.Feeding.{checksGuard, makesGuard, sideAfter, arrived, whole, fieldMade, fieldDue, nextUnit, settled, placed, shown, fed, emitted}
-use Rattle.engine.specs.Standing.{Matched}
 use Rattle.engine.specs.Parts.{sideTaken, dataTaken, fieldTaken, written, InStep, Countable, Room, Settled}
 use Rattle.engine.proofs.Arriving.{field-small}
 

@@ -6,11 +6,11 @@ use Prim.Native.Nat.{ℕ, zero, suc, _+_, _-_, _*_, _≤_, _<_}
 use native.Mathlib.Nat.{suc-mul}
 use native.Mathlib.Numerals.{add-one}
 use native.Mathlib.Omega.{arith}
-use lib.Dec.{eqb, ltb}
-use lib.ListN.{length, take, drop, getD, length-append, length-drop}
-use lib.Seq.{take-all, take-nil, drop-nil, getD-take, getD-drop, drop-at}
-use borrow.Author.Tests.{ltb-true, ltb-false, eqb-true, eqb-false}
-use Rattle.guard.specs.Guards.{Bytes, guardOf, advanced, finished}
+use lib.Dec.{ltb}
+use lib.ListN.{length, take, drop, length-append, length-drop}
+use lib.Seq.{take-all, take-nil, drop-nil, drop-at}
+use borrow.Author.Tests.{ltb-false, eqb-true, eqb-false}
+use Rattle.guard.specs.Guards.{Bytes, finished}
 use Rattle.guard.proofs.Laws.{whole-block}
 use Rattle.field.specs.declared.Domain.{Domain}
 use Rattle.field.specs.declared.ProtectionField.{ProtectionField}
@@ -21,8 +21,8 @@ use Rattle.field.specs.Judging.{judged}
 use Rattle.field.specs.Output.{outputField}
 use Rattle.field.proofs.Laws.{unchecked, uncopied}
 use Rattle.key.specs.declared.Slot.{Slot}
-use Rattle.key.specs.declared.Slot.the-variants.{Empty, Holding}
 use Rattle.key.specs.Keys.{keep}
+use Rattle.key.proofs.Laws.{keep-first}
 use Rattle.engine.specs.declared.Rule.{Rule}
 use Rattle.engine.specs.declared.Progress.{Progress}
 use Rattle.engine.specs.Streams.{fieldSize, inBlock, inUnit, inputBlock, inputField}
@@ -30,7 +30,7 @@ use Rattle.engine.specs.Transfers.{joined, guardBy, fieldBehind, slotOf,
 use Rattle.engine.specs.Feeding.{checksGuard, makesGuard, sideAt, whole, fieldMade, fieldDue, errorDue, settled, placed}
 use Rattle.engine.specs.Standing.{Matched, running, unitOut, Reached}
 use Rattle.engine.proofs.Windows.{window-second}
-use Rattle.engine.proofs.Units.{keep-empty, keep-assoc, units-first, errors-first, units-last, errors-last}
+use Rattle.engine.proofs.Units.{units-first, errors-first, units-last, errors-last}
 use Rattle.engine.proofs.Arriving.{running-none}
 
 pub bytes-take : (n : ℕ) (xs : List ℕ) → Bytes xs → Bytes (take n xs)
@@ -154,7 +154,7 @@ module _ (r : Rule) (m : Matched r) where
       bare = R .bare;
       error =
           rw (add-one (p .input .index), errors-last r (R .past ++ R .left) (p .input .index), errors-first r (R .past) (R .left) (p .input .index) all-units, ← error-now)
-          (ap (λ (s : Slot). keep s (errorDue r p)) (R .error) ∙ keep-assoc slot (firstError r (R .past) (p .input .index)) (errorDue r p));
+          (ap (λ (s : Slot). keep s (errorDue r p)) (R .error) ∙ keep-first slot (firstError r (R .past) (p .input .index)) (errorDue r p));
       shown =
           rw (add-one (p .input .index), units-last r (R .past ++ R .left) (p .input .index), units-first r (R .past) (R .left) (p .input .index) all-units)
           (rw (take-nil {A = ℕ} (inBlock r), append-nil (joined _++_ [] (unitOut r (R .past)) 0 (p .input .index) ++ unitOut r (R .past ++ R .left) (p .input .index)))

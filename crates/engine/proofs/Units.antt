@@ -1,17 +1,14 @@
 -- The transfer rule unit by unit, and by a stream's first bytes alone. Assumes nothing.
-use mathlib.Core.Path.{_≡_, refl, sym, ap, _∙_}
-use mathlib.Core.Bool.{Bool, true, false}
-use mathlib.Core.List.{List, [], _∷_, _++_, append-assoc, append-nil}
-use Prim.Native.Nat.{ℕ, zero, suc, _+_, _-_, _*_, _≤_, _<_}
+use mathlib.Core.Path.{_≡_, refl, _∙_}
+use mathlib.Core.List.{List, [], _++_, append-assoc, append-nil}
+use Prim.Native.Nat.{ℕ, suc, _+_, _-_, _*_, _≤_, _<_}
 use native.Mathlib.Nat.{suc-mul, zero-add, mul-le-mul-right}
 use native.Mathlib.Omega.{arith}
-use lib.ListN.{length, take, drop, length-take, length-drop}
+use lib.ListN.{length, drop, length-drop}
 use lib.Seq.{length-take-le}
-use Rattle.field.specs.Tests.{pick}
-use Rattle.field.specs.Domains.{signed}
-use Rattle.key.specs.declared.Slot.{Slot}
-use Rattle.key.specs.declared.Slot.the-variants.{Empty, Holding}
+use Rattle.key.specs.declared.Slot.the-variants.{Empty}
 use Rattle.key.specs.Keys.{keep}
+use Rattle.key.proofs.Laws.{keep-none, keep-first}
 use Rattle.engine.specs.declared.Rule.{Rule}
 use Rattle.engine.specs.Streams.{fieldSize, inBlock, inUnit, outBlock, inputBlock, inputField}
 use Rattle.engine.specs.Transfers.{joined, dataOf, outputBlock, fieldBehind, outputUnit, outputStream, errorOf, firstError}
@@ -22,14 +19,6 @@ use Rattle.engine.proofs.Joined.{joined-same, joined-last, joined-block
 -- unit k ends where n units end, or before
 pub unit-within : (k n u : ℕ) → k < n → k * u + u ≤ n * u
 unit-within k n u h = omega (arith, suc-mul k u, mul-le-mul-right u h)
-
-pub keep-empty : (s : Slot) → keep s Empty ≡ s
-keep-empty Empty = refl
-keep-empty (Holding e) = refl
-
-pub keep-assoc : (a b c : Slot) → keep (keep a b) c ≡ keep a (keep b c)
-keep-assoc Empty b c = refl
-keep-assoc (Holding e) b c = refl
 
 module _ (r : Rule) where
   module _ (xs ys : List ℕ) (k : ℕ) (h : k * inUnit r + inUnit r ≤ length xs) where
@@ -68,10 +57,10 @@ module _ (r : Rule) where
 
   pub errors-last : (xs : List ℕ) (n : ℕ) → firstError r xs (suc n) ≡ keep (firstError r xs n) (errorOf r xs n)
   unfolding firstError
-  errors-last xs n = joined-last keep Empty (λ a. refl) keep-empty keep-assoc (errorOf r xs) 0 n ∙ rw (zero-add n)
+  errors-last xs n = joined-last keep Empty (λ a. refl) keep-none keep-first (errorOf r xs) 0 n ∙ rw (zero-add n)
 
   module _ (stream : List ℕ) (n : ℕ) (same : outBlock r ≡ inBlock r) (h : n * inUnit r ≤ length stream) where
-    block-length : (k : ℕ) → k < n → length (inputBlock r stream k) ≡ inBlock r
+    pub block-length : (k : ℕ) → k < n → length (inputBlock r stream k) ≡ inBlock r
     unfolding inputBlock
     block-length k l =
         length-take-le (inBlock r) (drop (k * inUnit r) stream)

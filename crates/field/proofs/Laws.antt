@@ -1,17 +1,14 @@
 -- Laws about protection fields. Assumes nothing.
-use mathlib.Core.Path.{_≡_, refl, sym, ap, _∙_}
+use mathlib.Core.Path.{_≡_}
 use mathlib.Core.Bool.{Bool, true, false}
-use mathlib.Core.List.{List, [], _∷_}
-use Prim.Native.Nat.{ℕ, zero, suc, _+_, _-_, _*_, _/_, _%_, _≤_, _<_}
+use mathlib.Core.List.{[], _∷_}
+use Prim.Native.Nat.{ℕ, _-_, _/_, _%_, _≤_, _<_}
 use native.Mathlib.Omega.{arith}
-use lib.ListN.{length, getD}
-use lib.Dec.{eqb, ltb}
 use borrow.Author.Tests.{eq-eqb, ne-eqb, le-ltb}
 use Rattle.field.specs.declared.Domain.{Domain}
 use Rattle.field.specs.declared.ProtectionField.{ProtectionField}
-use Rattle.field.specs.Tests.{and, or, not, pick, bit}
-use Rattle.field.specs.Domains.{referenceTag}
-use Rattle.field.specs.Fields.{bytesOf, fieldOf, given, bytesIn, twoBytes}
+use Rattle.field.specs.Tests.{not, pick, bit}
+use Rattle.field.specs.Fields.{bytesOf, fieldOf, given}
 use Rattle.field.specs.Judging.{escaped, checked, differs, digit, maskOf, differing, firstBad, judged}
 use Rattle.field.specs.Output.{merged, outputField}
 

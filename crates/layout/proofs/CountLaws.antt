@@ -9,7 +9,6 @@ use borrow.Author.Tests.{eqb-true, eqb-false}
 use Rattle.layout.specs.declared.Layout.{Layout}
 use Rattle.layout.specs.declared.answer.Verdict.the-variants.{Sound}
 use Rattle.layout.specs.Pieces.{places, total}
-use Rattle.layout.specs.Moves.{Distinct, Below}
 use Rattle.layout.specs.Answers.{verdictOn}
 use Rattle.layout.proofs.PieceLaws.{length-places}
 use Rattle.layout.proofs.AnswerLaws.{sound-distinct, sound-below}

@@ -1,7 +1,7 @@
 -- Demand 3: lists of calls follow the packet rule. Assumes nothing.
 use mathlib.Core.Path.{_≡_, refl, sym, ap, _∙_}
 use mathlib.Core.List.{List, [], _∷_, _++_}
-use Prim.Native.Nat.{ℕ, zero, suc, _+_, _≤_}
+use Prim.Native.Nat.{ℕ, suc, _+_, _≤_}
 use native.Mathlib.Nat.{zero-mul}
 use native.Mathlib.Omega.{arith}
 use lib.ListN.{length, drop, length-append}
@@ -16,7 +16,7 @@ use Rattle.key.specs.declared.Slot.the-variants.{Empty}
 use Rattle.key.specs.declared.Outcome.{Outcome}
 use Rattle.key.specs.declared.Outcome.the-variants.{Done, Refused}
 use Rattle.key.specs.declared.Refusal.{Refusal}
-use Rattle.key.specs.Keys.{keep, withSlot, CameFromCalls}
+use Rattle.key.specs.Keys.{CameFromCalls}
 use Rattle.key.specs.Streams.{streamLength}
 use Rattle.key.specs.Admitting.{openAnswer}
 use Rattle.key.proofs.Laws.{admitted, came-record}
@@ -32,14 +32,14 @@ use Rattle.packets.specs.declared.Opened.{Opened}
 use Rattle.packets.specs.declared.Packed.{Packed}
 use Rattle.packets.specs.declared.Finished.{Finished}
 use Rattle.packets.specs.declared.Abandoned.{Abandoned}
-use Rattle.packets.specs.Sessions.{ruleOf, recorded, keyOf, SessionFromCalls, packetAnswer, further, packedBy, packing, memoryPacked, finishAnswer, finishedBy, finishing, abandoning, opening}
+use Rattle.packets.specs.Sessions.{ruleOf, recorded, keyOf, SessionFromCalls, packetAnswer, further, packedBy, packing, memoryPacked, finishAnswer, finishedBy, finishing, abandoning}
 use Rattle.packets.specs.PacketRule.{Call, packetRule, finishRule, Stands, Accepted, Kept, Early, Ended, Follows}
-use Rattle.packets.specs.PacketRule.Call.{packet, finish, abandon}
+use Rattle.packets.specs.PacketRule.Call.{packet, finish}
 use Rattle.packets.specs.Lists.{Made, played, AllBytes}
 use Rattle.packets.specs.Demand3.{Demand3}
 use Rattle.transfer.specs.Transferring.{receiving}
-use Rattle.packets.proofs.PacketLaws.{answer-0, finish-done, taken-all, bytes-append, packet-told, begun-in-step, some-unit}
-use Rattle.packets.proofs.RuleLaws.{sessionAt, lent-length, session-at, written-is, stands-at, totals-at}
+use Rattle.packets.proofs.PacketLaws.{answer-0, finish-done, taken-all, bytes-append, packet-told, session-begun, some-unit}
+use Rattle.packets.proofs.RuleLaws.{sessionAt, session-at, written-is, stands-at, totals-at}
 
 -- ---- what a call's answer is, by its outcome
 
@@ -125,7 +125,7 @@ module _ (k : Key) (atOpen : List ℕ) (start : LayoutOffset) (count : ℕ) (c :
     unfolding at shown
     memory-next bytes =
         let r = receiveRule (k .signature) in
-        let w = fed-after r (begun r Empty) (begun-in-step (at came) from-calls) (some-unit (at came) from-calls) came .2 in
+        let w = fed-after r (begun r Empty) (session-begun (at came) from-calls) (some-unit (at came) from-calls) came .2 in
         let e : start .0 + written r (fed r (begun r Empty) came) ≡ start .0 + length (emitted r (begun r Empty) came) = omega (arith, w, zero-mul (outUnit r)) in
         rw (e, emitted-append r (begun r Empty) came bytes)
         (sym (scattered-append atOpen (drop (start .0) (places (k .layout))) (emitted r (begun r Empty) came) (emitted r (fed r (begun r Empty) came) bytes) ∙ rw (drop-drop (length (emitted r (begun r Empty) came)) (start .0) (places (k .layout)))))

@@ -2,16 +2,15 @@
 use mathlib.Core.Path.{_≡_, refl, sym, ap, _∙_}
 use mathlib.Core.Bool.{Bool, true, false}
 use mathlib.Core.List.{List, [], _∷_, _++_}
-use Prim.Native.Nat.{ℕ, zero, suc, _+_, _-_, _*_, _/_, _^_, _≤_, _<_}
+use Prim.Native.Nat.{ℕ, zero, suc, _+_, _-_, _^_, _≤_, _<_}
 use native.Mathlib.Nat.{zero-mul}
 use native.Mathlib.Omega.{arith}
 use lib.Dec.{eqb, ltb}
-use lib.ListN.{length, take, drop, replicate, length-append, length-replicate}
+use lib.ListN.{length, replicate, length-append, length-replicate}
 use borrow.Author.Tests.{eq-eqb, ne-eqb, lt-ltb, le-ltb, eqb-true, ltb-false}
 use Rattle.guard.specs.Guards.{Bytes}
 use Rattle.layout.specs.declared.offset.LayoutOffset.{LayoutOffset}
-use Rattle.layout.specs.Pieces.{places, total}
-use Rattle.layout.specs.Moves.{scattered}
+use Rattle.layout.specs.Pieces.{total}
 use Rattle.layout.proofs.CountLaws.{sound-total}
 use Rattle.key.specs.declared.Key.{Key}
 use Rattle.key.specs.declared.Outcome.{Outcome}
@@ -25,21 +24,19 @@ use Rattle.key.specs.Streams.{streamLength, Measured}
 use Rattle.key.specs.Admitting.{openAnswer, Admitted}
 use Rattle.key.specs.Keys.{CameFromCalls}
 use Rattle.key.proofs.Laws.{admitted, accepted, data-in-stream, came-record}
-use Rattle.engine.specs.declared.Rule.{Rule}
 use Rattle.engine.specs.declared.Progress.{Progress}
-use Rattle.engine.specs.Streams.{inBlock, inUnit, outUnit}
+use Rattle.engine.specs.Streams.{inUnit, outUnit}
 use Rattle.engine.specs.Feeding.{begun, fed, emitted}
-use Rattle.engine.specs.Standing.{Reached}
 use Rattle.engine.specs.Parts.{InStep, Room, Fed, taken, written}
 use Rattle.engine.proofs.Feeding.{fed-append, emitted-append, reached-after}
-use Rattle.engine.proofs.FeedLaws.{fed-after}
+use Rattle.engine.proofs.FeedLaws.{begun-in-step, fed-after}
 use Rattle.transfer.specs.Rules.{receiveRule, Ranged}
-use Rattle.transfer.proofs.Laws.{Agree, Ready, ready, Whole, whole}
+use Rattle.transfer.proofs.Laws.{Ready, ready, whole}
 use Rattle.transfer.proofs.SendLaws.{stream-double}
 use Rattle.packets.specs.declared.Session.{Session}
 use Rattle.packets.specs.declared.Packed.{Packed}
 use Rattle.packets.specs.declared.Finished.{Finished}
-use Rattle.packets.specs.Sessions.{ruleOf, takenBy, wireLength, SessionFromCalls, keyOf, packetAnswer, further, packedBy, packing, memoryPacked, finishAnswer, finishing, opening}
+use Rattle.packets.specs.Sessions.{ruleOf, takenBy, wireLength, SessionFromCalls, keyOf, packetAnswer, further, packing, memoryPacked, finishAnswer, finishing, opening}
 
 pub bytes-append : (xs ys : List ℕ) → Bytes xs → Bytes ys → Bytes (xs ++ ys)
 bytes-append [] ys a b i = b i
@@ -67,8 +64,8 @@ module _ (s : Session) (f : SessionFromCalls s) where
       ready (ruleOf s) (s .length) (record { first = open-told .wire; second = open-told .memory; alike = λ a b. sym (open-told .alike b a) })
       (f .ranged .inSeed) (f .ranged .outSeed) (f .ranged .masks)
 
-  pub begun-in-step : InStep (ruleOf s) (begun (ruleOf s) Empty)
-  begun-in-step = record { matched = engine-ready .matched; index = refl; at = omega arith; within = omega arith; eight = refl }
+  pub session-begun : InStep (ruleOf s) (begun (ruleOf s) Empty)
+  session-begun = begun-in-step (ruleOf s) Empty (engine-ready .matched)
 
   pub some-unit : 0 < inUnit (ruleOf s)
   some-unit = omega (arith, engine-ready .matched .some)
@@ -90,7 +87,7 @@ module _ (s : Session) (f : SessionFromCalls s) where
     pub written-fits : written (ruleOf s) (fed (ruleOf s) (begun (ruleOf s) Empty) xs) ≤ streamLength (s .key .signature .memory) (s .length)
     written-fits =
         let zs : List ℕ = replicate (wireLength s - length xs) 0 in
-        let e = fed-after (ruleOf s) (begun (ruleOf s) Empty) begun-in-step some-unit xs .2 in
+        let e = fed-after (ruleOf s) (begun (ruleOf s) Empty) session-begun some-unit xs .2 in
         let t = ap length (emitted-append (ruleOf s) (begun (ruleOf s) Empty) xs zs) ∙ length-append (emitted (ruleOf s) (begun (ruleOf s) Empty) xs) (emitted (ruleOf s) (fed (ruleOf s) (begun (ruleOf s) Empty) xs) zs) in
         omega (arith, e, t, all-emitted, zero-mul (outUnit (ruleOf s)))
 
@@ -101,7 +98,7 @@ module _ (s : Session) (f : SessionFromCalls s) where
 
   pub session-in-step : InStep (ruleOf s) (s .progress) × (s .progress .input .at < inUnit (ruleOf s))
   session-in-step =
-      let a = fed-after (ruleOf s) (begun (ruleOf s) Empty) begun-in-step some-unit (f .came) in
+      let a = fed-after (ruleOf s) (begun (ruleOf s) Empty) session-begun some-unit (f .came) in
       rw (f .progress) (a .0, a .1)
 
   -- a stream is at most twice its data

@@ -1,13 +1,11 @@
 -- Where a session stands is where 01's packet rule says, whatever is still to come. Assumes nothing.
 use mathlib.Core.Path.{_≡_, refl, sym, ap, _∙_}
-use mathlib.Core.Bool.{Bool, true, false}
-use mathlib.Core.List.{List, [], _∷_, _++_, append-assoc, append-nil}
-use Prim.Native.Nat.{ℕ, zero, suc, _+_, _-_, _*_, _/_, _%_, _≤_, _<_, min}
+use mathlib.Core.List.{List, [], _++_, append-assoc, append-nil}
+use Prim.Native.Nat.{ℕ, _+_, _-_, _*_, _/_, _%_, _≤_, _<_}
 use native.Mathlib.Nat.{div-add-mod', mod-lt, zero-mul}
 use native.Mathlib.Decide.{decLt}
 use native.Mathlib.Omega.{arith}
-use lib.Dec.{ltb}
-use lib.ListN.{length, take, drop, length-append, length-take}
+use lib.ListN.{length, take, drop, length-take}
 use lib.Seq.{take-at, take-all}
 use borrow.Author.Tests.{le-ltb}
 use Rattle.guard.specs.Guards.{Bytes}
@@ -20,25 +18,23 @@ use Rattle.key.specs.declared.Slot.the-variants.{Empty}
 use Rattle.key.specs.declared.Outcome.the-variants.{Done}
 use Rattle.key.specs.Keys.{keep, withSlot, CameFromCalls}
 use Rattle.key.specs.Streams.{streamLength}
-use Rattle.key.specs.Admitting.{openAnswer, transferAnswer, Admitted}
+use Rattle.key.specs.Admitting.{openAnswer, transferAnswer}
 use Rattle.key.proofs.Laws.{admitted}
-use Rattle.engine.specs.declared.Rule.{Rule}
-use Rattle.engine.specs.declared.Progress.{Progress}
 use Rattle.engine.specs.Streams.{inBlock, inUnit, outUnit}
 use Rattle.engine.specs.Transfers.{firstError}
 use Rattle.engine.specs.Feeding.{begun, fed, emitted}
 use Rattle.engine.specs.Standing.{Reached}
-use Rattle.engine.specs.Parts.{written, InStep}
+use Rattle.engine.specs.Parts.{written}
 use Rattle.engine.proofs.Units.{unit-within, errors-first}
 use Rattle.engine.proofs.Feeding.{emitted-append, reached-after}
 use Rattle.engine.proofs.FeedLaws.{fed-after}
-use Rattle.transfer.specs.Rules.{receiveRule, outputOf, errorIn, Ranged}
-use Rattle.transfer.specs.Transferring.{receiving, memoryReceived, answered}
-use Rattle.transfer.proofs.Laws.{Ready, Whole, whole}
+use Rattle.transfer.specs.Rules.{receiveRule, outputOf, Ranged}
+use Rattle.transfer.specs.Transferring.{receiving, memoryReceived}
+use Rattle.transfer.proofs.Laws.{Whole, whole}
 use Rattle.packets.specs.declared.Session.{Session}
 use Rattle.packets.specs.Sessions.{SessionFromCalls}
-use Rattle.packets.specs.PacketRule.{shownAfter, memoryAfter, errorAfter, Stands}
-use Rattle.packets.proofs.PacketLaws.{engine-ready, begun-in-step, some-unit, taken-all, bytes-append}
+use Rattle.packets.specs.PacketRule.{shownAfter, Stands}
+use Rattle.packets.proofs.PacketLaws.{engine-ready, session-begun, some-unit, taken-all, bytes-append}
 
 -- a number is so many units and a rest in one way only
 one-way : (i j u a b : ℕ) → i * u + a ≡ j * u + b → a < u → b < u → i ≡ j
@@ -82,7 +78,7 @@ module _ (k : Key) (atOpen : List ℕ) (start : LayoutOffset) (count : ℕ) (c :
     shown-length : length (emitted (receiveRule (k .signature)) (begun (receiveRule (k .signature)) Empty) came) ≡ shownAfter (receiveRule (k .signature)) (length came)
     shown-length =
         let r = receiveRule (k .signature) in
-        let w = fed-after r (begun r Empty) (begun-in-step (sessionAt came) session-at) (some-unit (sessionAt came) session-at) came .2 in
+        let w = fed-after r (begun r Empty) (session-begun (sessionAt came) session-at) (some-unit (sessionAt came) session-at) came .2 in
         omega (arith, w, written-is, zero-mul (outUnit r))
 
     -- what a whole stream gives

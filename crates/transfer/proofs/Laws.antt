@@ -1,19 +1,18 @@
 -- From an accepted transfer to the engine: sizes, and what feeding the whole input stream gives. Assumes nothing.
 use mathlib.Core.Path.{_≡_, refl, sym, ap, _∙_}
 use mathlib.Core.Bool.{Bool, true, false}
-use mathlib.Core.List.{List, [], _∷_, _++_}
-use Prim.Native.Nat.{ℕ, zero, suc, _+_, _-_, _*_, _/_, _%_, _^_, _≤_, _<_}
+use mathlib.Core.List.{List}
+use Prim.Native.Nat.{ℕ, _+_, _-_, _*_, _/_, _%_, _≤_, _<_}
 use native.Mathlib.Nat.{div-add-mod', mul-add, zero-mul}
 use native.Mathlib.Omega.{arith}
-use lib.ListN.{length, take, drop}
+use lib.ListN.{length}
 use lib.Seq.{length-take-le}
 use Rattle.guard.specs.Guards.{Bytes}
 use Rattle.field.specs.declared.Domain.{Domain}
-use Rattle.field.specs.Tests.{and, pick}
+use Rattle.field.specs.Tests.{and}
 use Rattle.field.specs.Domains.{signed}
 use Rattle.key.specs.declared.Slot.{Slot}
 use Rattle.key.specs.declared.Slot.the-variants.{Empty}
-use Rattle.key.specs.Configuring.{GoodDomain}
 use Rattle.key.specs.Streams.{streamLength, Measured}
 use Rattle.key.specs.declared.Key.{Key}
 use Rattle.key.specs.declared.Refusal.{Refusal}
@@ -26,17 +25,16 @@ use Rattle.layout.specs.Pieces.{total}
 use Rattle.layout.proofs.CountLaws.{sound-total}
 use Rattle.engine.specs.declared.Rule.{Rule}
 use Rattle.engine.specs.Streams.{blockSize, fieldSize, unitSize, inBlock, inUnit, outBlock, outUnit}
-use Rattle.engine.specs.Transfers.{outputStream, firstError}
 use Rattle.engine.specs.Feeding.{fed, emitted, begun}
 use Rattle.engine.specs.Standing.{Matched}
 use Rattle.engine.specs.declared.Progress.{Progress}
 use Rattle.engine.specs.Parts.{InStep, Room, Fed, written}
 use Rattle.engine.proofs.Settling.{bytes-take}
 use Rattle.engine.proofs.Feeding.{finished-fed}
-use Rattle.engine.proofs.FeedLaws.{fed-after}
+use Rattle.engine.proofs.FeedLaws.{begun-in-step, fed-after}
 use Rattle.transfer.specs.declared.Transferred.{Transferred}
-use Rattle.transfer.specs.Rules.{sendRule, receiveRule, outputOf, errorIn, Ranged}
-use Rattle.transfer.specs.Transferring.{wireStream, memoryStream, answered, answerOf, receiving, memoryReceived, sending, wireSent}
+use Rattle.transfer.specs.Rules.{receiveRule, outputOf, errorIn, Ranged}
+use Rattle.transfer.specs.Transferring.{wireStream, answered, answerOf, receiving, memoryReceived}
 
 -- What an accepted transfer of so many data bytes tells of two domains.
 pub record Agree (a b : Domain) (count : ℕ) : Type 0 where
@@ -75,7 +73,7 @@ module _ (a b : Domain) (count : ℕ) (g : Agree a b count) where
       go n (its e f q) = rw q (omega (arith, g .second f .good .least), g .second f .good .most, g .second f .whole)
       go n (one e f q) = rw q (omega arith, omega arith, omega arith)
 
-  same-size : blockSize b a ≡ blockSize a b
+  pub same-size : blockSize b a ≡ blockSize a b
   unfolding blockSize
   same-size = go (signed a) (signed b) refl refl
     where
@@ -122,9 +120,6 @@ ready r count g s t m =
       output = stream-units b a count (agree-back g) ∙ rw same;
       blocks = rw same;
     }
-
-begun-in-step : (r : Rule) (slot : Slot) → Matched r → InStep r (begun r slot)
-begun-in-step r slot m = record { matched = m; index = refl; at = omega arith; within = omega arith; eight = refl }
 
 -- What feeding the whole input stream gives.
 pub record Whole (r : Rule) (stream : List ℕ) (count output : ℕ) : Type 0 where

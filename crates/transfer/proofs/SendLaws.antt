@@ -2,19 +2,18 @@
 use mathlib.Core.Path.{_≡_, refl, sym, ap, _∙_}
 use mathlib.Core.Bool.{Bool, true, false}
 use mathlib.Core.List.{List, [], _∷_, _++_}
-use Prim.Native.Nat.{ℕ, zero, suc, _+_, _-_, _*_, _^_, _≤_, _<_, min}
+use Prim.Native.Nat.{ℕ, zero, suc, _+_, _-_, _^_, _≤_, _<_, min}
 use native.Mathlib.Nat.{zero-mul, zero-add}
 use native.Mathlib.Omega.{arith}
-use lib.ListN.{length, take, drop, getD, length-take, length-drop, length-append}
-use lib.Seq.{take-take, drop-drop, length-take-le, sets, sets-eq}
+use lib.ListN.{length, take, drop, getD, length-take, length-drop}
+use lib.Seq.{take-take, drop-drop, length-take-le, sets-eq}
 use Rattle.layout.specs.declared.Layout.{Layout}
-use Rattle.layout.specs.Pieces.{pieces, places, total, from}
-use Rattle.layout.specs.Moves.{gathered, scattered, spot, Placed}
+use Rattle.layout.specs.Pieces.{pieces, places, total}
+use Rattle.layout.specs.Moves.{gathered, spot}
 use Rattle.layout.proofs.PieceLaws.{length-places, spot-runs, one-places, one-total, one-placed}
 use Rattle.layout.proofs.MoveLaws.{length-gathered, scattered-from}
 use Rattle.guard.specs.Guards.{Bytes}
 use Rattle.field.specs.declared.Domain.{Domain}
-use Rattle.field.specs.Tests.{pick}
 use Rattle.field.specs.Domains.{signed}
 use Rattle.key.specs.declared.Key.{Key}
 use Rattle.key.specs.declared.Refusal.{Refusal}
@@ -28,11 +27,11 @@ use Rattle.key.specs.declared.Slot.the-variants.{Empty}
 use Rattle.engine.specs.declared.Rule.{Rule}
 use Rattle.engine.specs.declared.Progress.{Progress}
 use Rattle.engine.specs.Streams.{inUnit, outUnit}
-use Rattle.engine.specs.Feeding.{begun, fed, emitted}
+use Rattle.engine.specs.Feeding.{begun, emitted}
 use Rattle.engine.specs.Parts.{InStep, Room, Fed, Going, written}
 use Rattle.engine.proofs.FeedLaws.{going-start, going-turn, going-end, part-room}
 use Rattle.transfer.specs.declared.Transferred.{Transferred}
-use Rattle.transfer.specs.Rules.{sendRule, outputOf, errorIn, Ranged}
+use Rattle.transfer.specs.Rules.{sendRule, outputOf, Ranged}
 use Rattle.transfer.specs.Transferring.{memoryStream, answered, answerOf, sending, wireSent}
 use Rattle.transfer.proofs.Laws.{Accepted, accept, Whole, whole, ready}
 use Rattle.transfer.specs.Sending.{onePiece, layoutBytes, Drawable, Drawn}
@@ -118,7 +117,7 @@ module _ (r : Rule) (l : Layout) (memory : List ℕ) (x n : ℕ) (to : Layout) (
 
 -- ---- an accepted send
 
-bytes-gathered : (m ps : List ℕ) → Bytes m → Bytes (gathered m ps)
+pub bytes-gathered : (m ps : List ℕ) → Bytes m → Bytes (gathered m ps)
 unfolding gathered
 bytes-gathered m [] h i = omega arith
 bytes-gathered m (p ∷ ps) h zero = h p

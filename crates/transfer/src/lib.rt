@@ -3,6 +3,7 @@ mod receiving;
 mod rules;
 mod sending;
 
+ghost use mathlib.Core.Path.{_≡_};
 use key::Key;
 use key::Outcome;
 pub use receiving::receive;
@@ -16,4 +17,16 @@ pub struct Transferred {
     pub taken: u64,
     pub written: u64,
     pub key: Key,
+}
+
+// A refused transfer: its number, two zeros, and the key as it was.
+fn refused(outcome: Outcome, key: Key) -> Transferred
+    ensures { λ r. ⌜ r ≡ record { outcome = outcome; taken = 0; written = 0; key = key } ⌝ }
+{
+    Transferred {
+        outcome,
+        taken: 0,
+        written: 0,
+        key,
+    }
 }

@@ -23,12 +23,7 @@ pub fn receive(
 {
     let outcome = key::admit_transfer(key, memory, wire, offset, data_length);
     let Outcome::Done = outcome else {
-        return Transferred {
-            outcome,
-            taken: 0,
-            written: 0,
-            key,
-        };
+        return crate::refused(outcome, key);
     };
     let signature = key.signature;
     let layout = key.layout;

@@ -1,11 +1,11 @@
 -- The small program's key, and a wire received packet by packet: what demand 3 says of it. Assumes nothing.
 use mathlib.Core.Path.{_≡_, refl, sym, ap, _∙_}
 use mathlib.Core.Bool.{Bool, true, false}
-use mathlib.Core.List.{List, [], _∷_, _++_, append-assoc, append-nil}
-use Prim.Native.Nat.{ℕ, zero, suc, _+_, _-_, _*_, _/_, _%_, _≤_, _<_}
+use mathlib.Core.List.{List, [], _++_, append-assoc, append-nil}
+use Prim.Native.Nat.{ℕ, _+_, _-_, _/_, _%_, _≤_}
 use native.Mathlib.Omega.{arith}
 use lib.Dec.{eqb, ltb}
-use lib.ListN.{length, take, drop, replicate, length-append, length-take, take-append-drop}
+use lib.ListN.{length, take, drop, length-append, length-take, take-append-drop}
 use borrow.Author.Tests.{eq-eqb, le-ltb, eqb-true, ltb-false}
 use Rattle.guard.specs.Guards.{Bytes}
 use Rattle.field.specs.Tests.{or, not}
@@ -21,13 +21,12 @@ use Rattle.key.specs.declared.Refusal.{Refusal}
 use Rattle.key.specs.Numbers.{number}
 use Rattle.key.specs.declared.Outcome.{Outcome}
 use Rattle.key.specs.declared.Outcome.the-variants.{Done, Refused}
-use Rattle.key.specs.declared.Slot.the-variants.{Empty}
 use Rattle.key.specs.Keys.{freshKey, configuredKey, configuring, configuredBy, checking, CameFromCalls}
 use Rattle.key.specs.Configuring.{configureAnswer}
 use Rattle.key.specs.Streams.{streamLength}
 use Rattle.key.specs.Admitting.{openAnswer}
 use Rattle.key.proofs.Laws.{came-fresh, came-configuring}
-use Rattle.engine.specs.Feeding.{begun, fed, emitted}
+use Rattle.engine.specs.Feeding.{fed, emitted}
 use Rattle.engine.proofs.Feeding.{bytes-first, nothing}
 use Rattle.transfer.specs.Rules.{receiveRule, Ranged}
 use Rattle.transfer.specs.Transferring.{receiving, memoryReceived}

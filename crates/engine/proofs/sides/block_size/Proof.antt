@@ -1,6 +1,5 @@
 use Rattle.engine.specs.Streams.{blockSize}
 use mathlib.Core.Path.{sym, _∙_}
-use native.Mathlib.Omega.{arith}
 use borrow.Author.Needs.{needs}
 use Rattle.engine.proofs.sides.block_size.Statement.{statement}
 use Rattle.engine.proofs.sides.block_size.Tie as tie

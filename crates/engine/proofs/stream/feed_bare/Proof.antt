@@ -1,6 +1,5 @@
-use mathlib.Core.Path.{_≡_, refl, sym, ap, _∙_}
+use mathlib.Core.Path.{_∙_}
 use native.Mathlib.Omega.{arith}
-use lib.ListN.{length}
 use Rattle.engine.proofs.BareLaws.{bare-room, bare-none, bare-done}
 use borrow.Author.Needs.{needs}
 use Rattle.engine.proofs.stream.feed_bare.Statement.{statement}

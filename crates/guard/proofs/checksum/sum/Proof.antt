@@ -1,9 +1,5 @@
-use mathlib.Core.Path.{_≡_, refl}
-use mathlib.Core.Bool.{false}
-use Prim.Native.Nat.{_+_}
+use mathlib.Core.Path.{refl}
 use native.Mathlib.Omega.{arith}
-use lib.ListN.{getD}
-use Rattle.guard.specs.Plain.{plain}
 use Rattle.guard.proofs.Laws.{advanced-none, advanced-even, advanced-odd-place, rounds-here}
 use borrow.Author.Needs.{needs}
 use Rattle.guard.proofs.checksum.sum.Statement.{statement}

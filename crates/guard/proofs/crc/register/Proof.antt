@@ -1,9 +1,8 @@
 use Rattle.guard.proofs.Laws.{crc-more, crc-end}
-use mathlib.Core.Path.{_≡_, _∙_, ap, sym, refl}
+use mathlib.Core.Path.{_≡_, _∙_, sym, refl}
 use native.Mathlib.Omega.{arith}
-use native.Mathlib.Numerals.{add-one}
 use borrow.Author.Needs.{needs}
-use Prim.Native.Nat.{ℕ, _≤_, _-_}
+use Prim.Native.Nat.{_≤_, _-_}
 use lib.ListN.{length, drop}
 use Rattle.guard.specs.Crc.{crc}
 use Rattle.guard.proofs.crc.register.Statement.{statement}

@@ -1,4 +1,3 @@
-use native.Mathlib.Omega.{arith}
 use Rattle.packets.proofs.PacketLaws.{session-short, answer-8, answer-12, answer-0}
 use borrow.Author.Needs.{needs}
 use Rattle.packets.proofs.packing.answer.Statement.{statement}

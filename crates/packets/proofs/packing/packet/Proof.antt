@@ -1,4 +1,4 @@
-use mathlib.Core.Path.{_≡_, sym, _∙_}
+use mathlib.Core.Path.{sym, _∙_}
 use Rattle.packets.proofs.PacketLaws.{packet-told, packet-refused, packet-room, packet-taken, packet-written, packet-done, session-in-step}
 use borrow.Author.Needs.{needs}
 use Rattle.packets.proofs.packing.packet.Statement.{statement}

@@ -1,7 +1,6 @@
 use Rattle.transfer.proofs.Laws.{accept}
-use mathlib.Core.Path.{_≡_, refl, sym, ap, _∙_}
+use mathlib.Core.Path.{sym, _∙_}
 use native.Mathlib.Nat.{sub-zero}
-use native.Mathlib.Omega.{arith}
 use Rattle.transfer.proofs.Laws.{receive-refused, receive-asks, receive-gives}
 use borrow.Author.Needs.{needs}
 use Rattle.transfer.proofs.receiving.receive.Statement.{statement}
@@ -13,6 +12,7 @@ use Rattle.engine.proofs.feed.Reads as feed-reads
 use Rattle.key.proofs.admit_transfer.Reads as admit-transfer-reads
 use Rattle.key.proofs.stream_length.Reads as stream-length-reads
 use Rattle.key.proofs.record.Reads as record-reads
+use Rattle.transfer.proofs.refused.Reads as refused-reads
 use Rattle.transfer.proofs.rules.ranged.Reads as ranged-reads
 use Rattle.transfer.proofs.rules.receive_rule.Reads as receive-rule-reads
 
@@ -25,12 +25,14 @@ enum-told c = search needs
 enum-told-2 : tie.Need-enum-told-2
 enum-told-2 c = search needs
 
+refused-requires : tie.Need-refused-requires
+refused-requires c κs = search needs
+
 same-length : tie.Need-same-length
 same-length c = search needs
 
 returns : tie.Need-returns
-returns c =
-    receive-refused _ _ _ _ _ _ _ (c .before .before .admit-transfer .ensures) (c .enum-told2 .given .1)
+returns c = rw (c .refused .ensures) (receive-refused _ _ _ _ _ _ _ (c .before .before .before .admit-transfer .ensures) (c .before .enum-told2 .given .1))
 
 receive-rule-requires : tie.Need-receive-rule-requires
 receive-rule-requires c κs = search needs
@@ -96,6 +98,7 @@ receive-spec =
     admit-transfer-requires
     enum-told
     enum-told-2
+    refused-requires
     same-length
     returns
     receive-rule-requires

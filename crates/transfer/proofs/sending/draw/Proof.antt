@@ -1,14 +1,14 @@
-use mathlib.Core.Path.{_≡_, refl, sym, ap, _∙_}
-use Prim.Native.Nat.{ℕ, _-_, _≤_}
+use mathlib.Core.Path.{_≡_}
+use Prim.Native.Nat.{_-_, _≤_}
 use native.Mathlib.Nat.{sub-zero}
 use native.Mathlib.Omega.{arith}
 use borrow.Author.Needs.{needs}
-use lib.ListN.{length, drop}
+use lib.ListN.{drop}
 use Rattle.key.specs.declared.Slot.the-variants.{Empty}
 use Rattle.engine.specs.Feeding.{begun}
 use Rattle.engine.specs.Parts.{Going}
 use Rattle.transfer.specs.Sending.{layoutBytes}
-use Rattle.transfer.proofs.SendLaws.{run-length, draw-start, draw-some, draw-asks, draw-turn, draw-end}
+use Rattle.transfer.proofs.SendLaws.{draw-start, draw-some, draw-asks, draw-turn, draw-end}
 use Rattle.transfer.proofs.sending.draw.Statement.{statement}
 use Rattle.transfer.proofs.sending.draw.Tie as tie
 use Rattle.transfer.proofs.sending.draw.Reads as reads

@@ -1,4 +1,4 @@
-use mathlib.Core.Path.{_≡_, refl, sym, ap, _∙_}
+use mathlib.Core.Path.{sym, _∙_}
 use Rattle.transfer.proofs.Laws.{accept}
 use Rattle.transfer.proofs.SendLaws.{send-refused, send-small, send-asks, send-gives}
 use borrow.Author.Needs.{needs}
@@ -9,6 +9,7 @@ use Rattle.transfer.proofs.sending.send.Lts as lts
 use Rattle.key.proofs.admit_transfer.Reads as admit-transfer-reads
 use Rattle.key.proofs.stream_length.Reads as stream-length-reads
 use Rattle.key.proofs.record.Reads as record-reads
+use Rattle.transfer.proofs.refused.Reads as refused-reads
 use Rattle.transfer.proofs.rules.ranged.Reads as ranged-reads
 use Rattle.transfer.proofs.rules.send_rule.Reads as send-rule-reads
 use Rattle.transfer.proofs.sending.draw.Reads as draw-reads
@@ -23,11 +24,14 @@ enum-told c = search needs
 enum-told-2 : tie.Need-enum-told-2
 enum-told-2 c = search needs
 
+refused-requires : tie.Need-refused-requires
+refused-requires c κs = search needs
+
 same-length : tie.Need-same-length
 same-length c = search needs
 
 returns : tie.Need-returns
-returns c = send-refused _ _ _ _ _ _ _ (c .before .before .admit-transfer .ensures) (c .enum-told2 .given .1)
+returns c = rw (c .refused .ensures) (send-refused _ _ _ _ _ _ _ (c .before .before .before .admit-transfer .ensures) (c .before .enum-told2 .given .1))
 
 send-rule-requires : tie.Need-send-rule-requires
 send-rule-requires c κs = search needs
@@ -92,6 +96,7 @@ send-spec =
     admit-transfer-requires
     enum-told
     enum-told-2
+    refused-requires
     same-length
     returns
     send-rule-requires

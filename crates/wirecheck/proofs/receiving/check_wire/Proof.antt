@@ -1,5 +1,4 @@
 use Rattle.wirecheck.proofs.Laws.{check-refused, check-asks, check-found, memory-found}
-use mathlib.Core.Path.{_≡_, sym, ap, _∙_}
 use Rattle.wirecheck.specs.Checking.{checkOf, memoryOf}
 use borrow.Author.Needs.{needs}
 use Rattle.wirecheck.proofs.receiving.check_wire.Statement.{statement}

@@ -1,5 +1,5 @@
 use Rattle.wirecheck.specs.Checking.{Receivable}
-use mathlib.Core.Path.{_≡_, refl, sym, ap, _∙_}
+use mathlib.Core.Path.{_≡_, refl, ap, _∙_}
 use Prim.Native.Nat.{ℕ, _-_, _/_}
 use native.Mathlib.Nat.{sub-zero}
 use native.Mathlib.Omega.{arith}
@@ -9,7 +9,6 @@ use lib.ListN.{length, length-drop}
 use Rattle.guard.specs.Guards.{Bytes}
 use Rattle.layout.specs.declared.offset.LayoutOffset.{LayoutOffset}
 use Rattle.transfer.specs.Transferring.{memoryReceived}
-use Rattle.packets.specs.Sessions.{packing}
 use Rattle.packets.specs.declared.Opened.{Opened}
 use Rattle.packets.specs.declared.Packed.{Packed}
 use Rattle.packets.specs.declared.Finished.{Finished}
