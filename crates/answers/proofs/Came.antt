@@ -9,7 +9,7 @@ use Rattle.key.specs.declared.Outcome.{Outcome}
 use Rattle.key.specs.declared.Outcome.the-variants.{Done, Refused}
 use Rattle.key.specs.Keys.{keep, CameFromCalls}
 use Rattle.key.specs.Admitting.{transferAnswer}
-use Rattle.key.proofs.Laws.{admitted, transfer-admitted, came-record}
+use Rattle.key.proofs.Laws.{usable, admitted, transfer-admitted, came-record}
 use Rattle.transfer.specs.Transferring.{answered, sending, receiving}
 
 module _ (k : Key) (came : CameFromCalls k) where
@@ -18,7 +18,7 @@ module _ (k : Key) (came : CameFromCalls k) where
       → transferAnswer k n x count w ≡ o
       → CameFromCalls (answered o k taken written error .key)
   answered-came n x count w taken written error Done e =
-      came-record k (keep (k .slot) error) came (admitted k n x count came (transfer-admitted k n x count w e .0) .configured)
+      came-record k (keep (k .slot) error) came (admitted k n x count (usable k came) (transfer-admitted k n x count w e .0) .configured)
   answered-came n x count w taken written error (Refused r) e = came
 
   pub came-sending : (memory wire : List ℕ) (x count : ℕ) → CameFromCalls (sending k memory wire x count .key)

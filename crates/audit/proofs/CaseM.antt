@@ -25,7 +25,6 @@ use Rattle.key.specs.Streams.{streamLength}
 use Rattle.engine.specs.Streams.{blockSize, fieldSize}
 use Rattle.engine.specs.Transfers.{slotOf, errorBy}
 use Rattle.engine.specs.Feeding.{checksGuard, makesGuard, arrived, errorDue, fieldMade, settled, fed, emitted}
-use Rattle.transfer.specs.Rules.{receiveRule, Ranged}
 use Rattle.packets.specs.Sessions.{opening, packetAnswer, packing, memoryPacked, finishAnswer}
 use Rattle.packets.specs.Lists.{played, AllBytes}
 use Rattle.packets.proofs.Following.{played-made, packets-follow-the-rule}
@@ -67,14 +66,10 @@ opens : opening (keyOver 16 domainA 0xFF) 16 (record { 0 = 0 }) 16 .outcome ≡ 
 unfolding someCountZero malformed someBeyond sharesWith someShare verdictOn signatureAnswer configureAnswer repeats size streamLength openAnswer
 opens = refl
 
-ranged : Ranged (receiveRule (keyOver 16 domainA 0xFF .signature))
-unfolding someCountZero malformed someBeyond sharesWith someShare verdictOn signatureAnswer configureAnswer repeats copyMask
-ranged = record { inSeed = omega arith; outSeed = omega arith; masks = omega arith }
-
 pub case-M-follows : CaseMFollows
 case-M-follows =
     let m = played-made sessionM memoryM packetsM packets-small in (
       m,
-      packets-follow-the-rule (keyOver 16 domainA 0xFF) memoryM (record { 0 = 0 }) 16 (came-configuring freshKey 16 _ came-fresh) ranged
+      packets-follow-the-rule (keyOver 16 domainA 0xFF) memoryM (record { 0 = 0 }) 16 (came-configuring freshKey 16 _ came-fresh)
           (opening (keyOver 16 domainA 0xFF) 16 (record { 0 = 0 }) 16) refl opens (played sessionM memoryM packetsM) m,
     )

@@ -13,11 +13,12 @@ use Rattle.layout.specs.Pieces.{pieces, places}
 use Rattle.layout.specs.Moves.{scattered}
 use Rattle.layout.proofs.PieceLaws.{length-places}
 use Rattle.layout.proofs.MoveLaws.{length-gathered, length-scattered, scattered-other, scattered-at, distinct-drop, below-drop}
-use Rattle.layout.proofs.AnswerLaws.{within-below}
+use Rattle.layout.proofs.AnswerLaws.{sound-distinct, within-below}
 use Rattle.key.specs.declared.Key.{Key}
 use Rattle.key.specs.declared.Outcome.the-variants.{Done, Refused}
 use Rattle.key.specs.Keys.{CameFromCalls}
 use Rattle.key.specs.Streams.{streamLength}
+use Rattle.key.proofs.Laws.{usable, configure-done}
 use Rattle.engine.specs.declared.Rule.{Rule}
 use Rattle.engine.specs.Streams.{fieldSize, inBlock, inUnit, outBlock, outUnit, inputBlock}
 use Rattle.engine.specs.Transfers.{joined, fieldBehind, outputStream}
@@ -79,7 +80,7 @@ module _ (k : Key) (memory wire : List ℕ) (x count : ℕ) where
 
   module _ (c : CameFromCalls k) (e : answerOf k memory wire x count ≡ Done) where
     pub told : Accepted k (length memory) x count (length wire)
-    told = accept k (length memory) x count (length wire) c e
+    told = accept k (length memory) x count (length wire) (usable k c) e
 
     pub memory-length : length (memoryStream k memory x count) ≡ streamLength (k .signature .memory) count
     memory-length =
@@ -126,7 +127,7 @@ module _ (k : Key) (memory wire : List ℕ) (x count : ℕ) where
         size = ap length (received c e) ∙ length-scattered memory (drop x ps) out;
         inside = λ j h.
             rw (received c e, ← getD-drop x ps j 0)
-            (scattered-at memory (drop x ps) out j (distinct-drop x ps (a .distinct)) (below-drop (length memory) x ps (within-below (length memory) (pieces (k .layout)) (a .placed .within)))
+            (scattered-at memory (drop x ps) out j (distinct-drop x ps (sound-distinct (k .layout) (k .«memory_length») (configure-done _ _ (c .accepted (a .configured)) .sound))) (below-drop (length memory) x ps (within-below (length memory) (pieces (k .layout)) (a .placed .within)))
             (omega (arith, l)) (omega (arith, length-drop x ps, room c e)));
         outside = λ p o. rw (received c e) (scattered-other memory (drop x ps) out p (λ i h h′ q. o i (omega (arith, l)) (sym (getD-drop x ps i 0) ∙ q)));
       }

@@ -2,10 +2,8 @@
 ghost use mathlib.Core.Path.{_≡_};
 ghost use Rattle.key.specs.declared.Outcome.the-variants as outcome;
 ghost use Rattle.key.specs.Keys.{CameFromCalls};
-ghost use Rattle.transfer.specs.Rules.{Ranged};
 ghost use Rattle.packets.specs.Sessions.{SessionFromCalls};
 use crate::lines;
-use engine::Rule;
 use key::Configuration;
 use key::Configured;
 use key::Key;
@@ -22,18 +20,17 @@ pub(crate) fn configured(memory: &[u8], c: Configuration) -> Configured
     key::configure(key::fresh(), memory, c)
 }
 
-// What the types say of a rule's numbers.
-fn ranged(rule: Rule)
-    ensures { λ _. ⌜ Ranged rule ⌝ }
-{}
-
 pub(crate) fn open(key: Key, memory: &[u8], offset: LayoutOffset, length: u64) -> Opened
     requires { ⌜ CameFromCalls key ⌝ }
     ensures { λ r. ⌜ (r .outcome ≡ outcome.Done → SessionFromCalls (r .session)) ⌝ }
 {
-    let rule = transfer::receive_rule(key.signature);
-    ranged(rule);
     packets::open(key, memory, offset, length)
+}
+
+pub(crate) fn send(key: Key, memory: &[u8], wire: &mut [u8], length: u64)
+    requires { ⌜ CameFromCalls key ⌝ }
+{
+    transfer::send(key, memory, wire, LayoutOffset::new(0), length);
 }
 
 fn number(label: &[u8], outcome: Outcome) {

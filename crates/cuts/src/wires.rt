@@ -4,7 +4,6 @@ use crate::calls;
 use crate::lines;
 use crate::settings;
 use key::Outcome;
-use layout::LayoutOffset;
 use wirecheck::Answer;
 
 // Longer than the stream.
@@ -20,7 +19,7 @@ pub(crate) fn sent(side: u32) -> Wire {
     let Outcome::Done = outcome else {
         return wire;
     };
-    transfer::send(configured.key, &data, &mut wire, LayoutOffset::new(0), 16);
+    calls::send(configured.key, &data, &mut wire, 16);
     wire
 }
 

@@ -1,7 +1,7 @@
 -- Feeding a part, and then the rest. Assumes nothing.
 use mathlib.Core.Path.{_≡_, refl, sym, ap, _∙_}
 use mathlib.Core.List.{List, [], _∷_, _++_, append-nil}
-use Prim.Native.Nat.{ℕ, _+_, _-_, _≤_, _<_}
+use Prim.Native.Nat.{ℕ, _+_, _-_, _*_, _≤_, _<_, min}
 use native.Mathlib.Decide.{decLt}
 use native.Mathlib.Omega.{arith}
 use lib.ListN.{length, take, drop, length-append, take-append-drop}
@@ -13,12 +13,13 @@ use Rattle.layout.specs.Moves.{scattered}
 use Rattle.layout.proofs.MoveLaws.{scattered-append, scattered-none, length-scattered}
 use Rattle.engine.specs.declared.Rule.{Rule}
 use Rattle.engine.specs.declared.Progress.{Progress}
-use Rattle.engine.specs.Streams.{inBlock, inUnit}
+use Rattle.engine.specs.Streams.{inBlock, inUnit, outUnit}
 use Rattle.engine.specs.Feeding.{arrived, settled, placed, shown, fed, emitted, begun}
 use Rattle.engine.specs.Standing.{Matched}
-use Rattle.engine.specs.Parts.{dataTaken, fieldTaken, written, InStep, Room, Fed, Settled, Holds, OnePart, Going}
+use Rattle.engine.specs.Parts.{dataTaken, fieldTaken, taken, written, InStep, Room, Fed, Settled, Holds, OnePart, Going}
 use Rattle.engine.proofs.Arriving.{field-small}
-use Rattle.engine.proofs.PartLaws.{data-part, field-part, in-step-data, in-step-field, in-step-settled, written-settled}
+use Rattle.engine.proofs.Units.{unit-within}
+use Rattle.engine.proofs.PartLaws.{data-part, field-part, in-step-data, in-step-field, in-step-settled, written-settled, taken-settled, taken-arrived}
 use Rattle.engine.proofs.Feeding.{fed-append, emitted-append}
 
 module _ (r : Rule) (p : Progress) (xs : List ℕ) (some : 0 < length xs) (o : OnePart r p (length xs)) where
@@ -99,6 +100,31 @@ fed-after r p s h (x ∷ xs) =
     let b = fed-after r (settled r (arrived r p x)) (a .0) (a .1) xs in
     let w : written r (settled r (arrived r p x)) ≡ written r p + length (shown r p x ++ placed r (arrived r p x)) = rw (append-nil (shown r p x ++ placed r (arrived r p x))) at (a .2) in
     (b .0, b .1, b .2 ∙ rw (w, length-append (shown r p x ++ placed r (arrived r p x)) (emitted r (settled r (arrived r p x)) xs)) (omega arith))
+
+-- What has come has grown by these bytes.
+pub fed-taken : (r : Rule) (p : Progress) → InStep r p → p .input .at < inUnit r → (xs : List ℕ) → taken r (fed r p xs) ≡ taken r p + length xs
+unfolding fed
+fed-taken r p s h [] = omega arith
+fed-taken r p s h (x ∷ xs) =
+    let o : OnePart r p 1 = record { block = λ k. omega arith; unit = omega arith } in
+    let a = part-after r p (x ∷ []) (omega arith) o s in
+    let t = fed-taken r (settled r (arrived r p x)) (a .0) (a .1) xs in
+    t ∙ rw (taken-settled r (arrived r p x), taken-arrived r p x) (omega arith)
+
+-- As much is written as the units that came hold.
+pub written-within : (r : Rule) (p : Progress) → InStep r p → p .input .at < inUnit r → (n : ℕ) → taken r p ≤ n * inUnit r → written r p ≤ n * outUnit r
+written-within r p s h n t = go (decLt (p .input .index) n)
+  where
+    go : Dec (p .input .index < n) → written r p ≤ n * outUnit r
+    go (yes l) = rw (s .index, s .at) (omega (arith, unit-within (p .input .index) n (outUnit r) l, s .matched .same))
+    go (no l) = rw (s .index, s .at) (last (decLt n (p .input .index)))
+      where
+        last : Dec (n < p .input .index) → p .input .index * outUnit r + min (p .input .at) (inBlock r) ≤ n * outUnit r
+        last (yes g) = absurd (omega (arith, unit-within n (p .input .index) (inUnit r) g))
+        last (no g) =
+            let e : p .input .index ≡ n = omega (arith, l, g) in
+            let z : p .input .at ≡ 0 = omega (arith, ap (λ (i : ℕ). i * inUnit r) e) in
+            rw (e, z) (omega arith)
 
 module _ (r : Rule) (p : Progress) (l : Layout) (x : ℕ) (before bytes : List ℕ) where
   pub going-start : (m : ℕ) → m ≡ length before → InStep r p → p .input .at < inUnit r → Room r p l m x (length (emitted r p bytes)) → Going r p l x before bytes p before bytes

@@ -6,6 +6,7 @@ use Prim.Native.Nat.{ℕ, suc, _+_, _-_, _*_, _^_, _≤_, _<_}
 use native.Mathlib.Nat.{suc-mul, mul-le-mul, mul-le-mul-left}
 use native.Mathlib.Numerals.{add-one}
 use native.Mathlib.Omega.{arith}
+use lib.Dec.{ltb}
 use lib.ListN.{length, getD, take, drop, set, drop-of-length-le}
 use lib.Seq.{sets, drop-cons, length-sets}
 use borrow.Author.Tests.{lt-ltb, le-ltb, eq-eqb, ne-eqb, eqb-true, eqb-false}
@@ -24,7 +25,7 @@ use Rattle.engine.specs.declared.Side.{Side}
 use Rattle.engine.specs.declared.Progress.{Progress}
 use Rattle.engine.specs.Streams.{fieldSize, inBlock, inUnit, outUnit}
 use Rattle.engine.specs.Feeding.{checksGuard, makesGuard, sideAfter, arrived, whole, fieldMade, fieldDue, nextUnit, settled, placed, shown, fed, emitted}
-use Rattle.engine.specs.Parts.{sideTaken, dataTaken, fieldTaken, written, InStep, Countable, Room, Settled}
+use Rattle.engine.specs.Parts.{sideTaken, dataTaken, fieldTaken, taken, written, InStep, Countable, Room, Settled}
 use Rattle.engine.proofs.Arriving.{field-small}
 
 guard-more : (t : ℕ) (works : Bool) (g : Running) (b : ℕ) (xs : List ℕ)
@@ -170,6 +171,26 @@ module _ (r : Rule) (p : Progress) (s : InStep r p) where
           let w : p .input .at ≡ inUnit r = eqb-true (p .input .at) (inUnit r) e in
           rw e (rw (add-one (p .output .index), suc-mul (p .output .index) (outUnit r), length-due r p) (omega (arith, s .at, s .matched .same)))
       go false e = rw e (omega arith)
+
+-- settling takes nothing
+pub taken-settled : (r : Rule) (p : Progress) → taken r (settled r p) ≡ taken r p
+unfolding settled
+taken-settled r p = go (whole r p) refl
+  where
+    go : (t : Bool) → whole r p ≡ t → taken r (settled r p) ≡ taken r p
+    go true e =
+        let w : p .input .at ≡ inUnit r = eqb-true (p .input .at) (inUnit r) e in
+        rw e (rw (add-one (p .input .index), suc-mul (p .input .index) (inUnit r)) (omega arith))
+    go false e = rw e refl
+
+-- a byte more has come
+pub taken-arrived : (r : Rule) (p : Progress) (b : ℕ) → taken r (arrived r p b) ≡ taken r p + 1
+unfolding arrived
+taken-arrived r p b = go (ltb (p .input .at) (inBlock r)) refl
+  where
+    go : (t : Bool) → ltb (p .input .at) (inBlock r) ≡ t → taken r (arrived r p b) ≡ taken r p + 1
+    go true e = rw e (omega arith)
+    go false e = rw e (omega arith)
 
 -- ---- bytes held one by one
 

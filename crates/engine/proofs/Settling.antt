@@ -2,11 +2,11 @@
 use mathlib.Core.Path.{_≡_, refl, sym, ap, _∙_}
 use mathlib.Core.Bool.{Bool, true, false}
 use mathlib.Core.List.{List, [], _∷_, _++_, append-assoc, append-nil}
-use Prim.Native.Nat.{ℕ, zero, suc, _+_, _-_, _*_, _≤_, _<_}
+use Prim.Native.Nat.{ℕ, zero, suc, _+_, _-_, _*_, _/_, _%_, _≤_, _<_}
 use native.Mathlib.Nat.{suc-mul}
 use native.Mathlib.Numerals.{add-one}
 use native.Mathlib.Omega.{arith}
-use lib.Dec.{ltb}
+use lib.Dec.{eqb, ltb}
 use lib.ListN.{length, take, drop, length-append, length-drop}
 use lib.Seq.{take-all, take-nil, drop-nil, drop-at}
 use borrow.Author.Tests.{ltb-false, eqb-true, eqb-false}
@@ -58,20 +58,20 @@ module _ (r : Rule) (m : Matched r) where
         go : (t : Bool) → ltb 63 (r .«check_mask») ≡ t
             → judged (r .input) (r .«check_mask») i (finished (r .input .«guard_type») (running (r .input) (checksGuard r) block)) found
             ≡ judged (r .input) (r .«check_mask») i (guardBy (r .input) block) found
-        go true e = rw (s, e, right-guard (r .input) (m .inSeed))
+        go true e = rw (s, e, right-guard (r .input) (m .inSeed s))
         go false e = unchecked (r .input) (r .«check_mask») i _ _ found (let l = ltb-false 63 (r .«check_mask») e in omega arith)
 
     made-right : signed (r .output) ≡ true
         → outputField (r .«copy_mask») found (given (r .output) i (finished (r .output .«guard_type») (running (r .output) (makesGuard r) block)))
         ≡ outputField (r .«copy_mask») found (given (r .output) i (guardBy (r .output) block))
     unfolding makesGuard
-    made-right s = go (ltb (r .«copy_mask») 192) refl
+    made-right s = go (eqb (r .«copy_mask» / 64 % 4) 3) refl
       where
-        go : (t : Bool) → ltb (r .«copy_mask») 192 ≡ t
+        go : (t : Bool) → eqb (r .«copy_mask» / 64 % 4) 3 ≡ t
             → outputField (r .«copy_mask») found (given (r .output) i (finished (r .output .«guard_type») (running (r .output) (makesGuard r) block)))
             ≡ outputField (r .«copy_mask») found (given (r .output) i (guardBy (r .output) block))
-        go true e = rw (s, e, right-guard (r .output) (m .outSeed))
-        go false e = uncopied found (r .output) i (r .«copy_mask») (ltb-false (r .«copy_mask») 192 e) (m .masks) _ _
+        go true e = uncopied found (r .output) i (r .«copy_mask») (eqb-true (r .«copy_mask» / 64 % 4) 3 e) _ _
+        go false e = rw (s, e, right-guard (r .output) (m .outSeed s))
 
   module _ (slot : Slot) (xs : List ℕ) (b : Bytes xs) (p : Progress) (out : List ℕ) (R : Reached r slot xs p out) (w : p .input .at ≡ inUnit r) where
     block-now : inputBlock r (R .past ++ R .left) (p .input .index) ≡ take (inBlock r) (R .left)

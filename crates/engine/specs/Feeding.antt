@@ -1,13 +1,13 @@
 -- What the engine does, one byte of the input stream after the other. `proofs/` shows that it is the transfer rule.
 use mathlib.Core.Bool.{Bool, true, false}
 use mathlib.Core.List.{List, [], _∷_, _++_}
-use Prim.Native.Nat.{ℕ, zero, suc, _+_, _-_, _*_}
+use Prim.Native.Nat.{ℕ, zero, suc, _+_, _-_, _*_, _/_, _%_}
 use lib.Dec.{eqb, ltb}
 use lib.ListN.{set}
 use Rattle.guard.specs.declared.Running.{Running}
 use Rattle.guard.specs.Guards.{started, stepped, finished}
 use Rattle.field.specs.declared.Domain.{Domain}
-use Rattle.field.specs.Tests.{and, pick}
+use Rattle.field.specs.Tests.{and, not, pick}
 use Rattle.field.specs.Domains.{signed}
 use Rattle.field.specs.Fields.{bytesOf, fieldOf, given}
 use Rattle.field.specs.Output.{outputField}
@@ -26,7 +26,7 @@ checksGuard r = and (signed (r .input)) (ltb 63 (r .«check_mask»))
 
 -- the output guard is worked out where a guard byte is generated
 unfoldable pub makesGuard : Rule → Bool
-makesGuard r = and (signed (r .output)) (ltb (r .«copy_mask») 192)
+makesGuard r = and (signed (r .output)) (not (eqb (r .«copy_mask» / 64 % 4) 3))
 
 -- the start of block i of a domain's stream
 abbrev pub sideAt : Domain → ℕ → Side

@@ -18,14 +18,13 @@ use Rattle.engine.specs.Streams.{inBlock, inUnit, outBlock, inputBlock}
 use Rattle.engine.specs.Transfers.{joined, fieldBehind, outputStream, firstError}
 use Rattle.engine.specs.Feeding.{checksGuard, makesGuard}
 
--- What an accepted configuration gives a rule: one block size for both sides, and numbers in the range of their types.
+-- What an accepted configuration gives a rule: one block size for both sides, and seeds of 16 bits.
 pub record Matched (r : Rule) : Type 0 where
   pub same : outBlock r ≡ inBlock r
   pub some : 1 ≤ inBlock r
   pub most : inBlock r ≤ 4160
-  pub inSeed : r .input .seed ≤ 65535
-  pub outSeed : r .output .seed ≤ 65535
-  pub masks : r .«copy_mask» < 256
+  pub inSeed : signed (r .input) ≡ true → r .input .seed ≤ 65535
+  pub outSeed : signed (r .output) ≡ true → r .output .seed ≤ 65535
 
 -- an output unit where both sides have one block size: the block that came in, and its field
 abbrev pub unitOut : Rule → List ℕ → ℕ → List ℕ

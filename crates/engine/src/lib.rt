@@ -8,9 +8,7 @@ mod whole;
 use field::Domain;
 use guard::Running;
 use key::Slot;
-pub use sides::block_size;
 pub use sides::taken;
-pub use sides::unit_size;
 pub use sides::written;
 pub use stream::feed;
 

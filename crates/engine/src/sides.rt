@@ -12,7 +12,7 @@ use crate::Side;
 use field::Domain;
 
 // A domain's block size: a domain without a signature takes the other's, or 1.
-pub fn block_size(d: Domain, other: Domain) -> u64
+pub(crate) fn block_size(d: Domain, other: Domain) -> u64
     ensures { λ r. ⌜ (r ≡ streams.blockSize d other) × (r < 2 ^ 32) ⌝ }
 {
     if field::signed(d) {
@@ -25,7 +25,7 @@ pub fn block_size(d: Domain, other: Domain) -> u64
 }
 
 // A block with its field, or a bare block.
-pub fn unit_size(d: Domain, other: Domain) -> u64
+pub(crate) fn unit_size(d: Domain, other: Domain) -> u64
     ensures { λ r. ⌜ (r ≡ streams.unitSize d other) × (r < 2 ^ 33) ⌝ }
 {
     block_size(d, other) + field_size(d)
@@ -53,7 +53,7 @@ pub(crate) fn makes_guard(rule: Rule) -> bool
     ensures { λ r. ⌜ r ≡ feeding.makesGuard rule ⌝ }
 {
     if field::signed(rule.output) {
-        rule.copy_mask < 192
+        rule.copy_mask / 64 % 4 != 3
     } else {
         false
     }

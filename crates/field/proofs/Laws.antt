@@ -58,7 +58,7 @@ unchecked d m i g g′ found h =
     rw (same-set found d i (checked d m found) n g g′)
     (same-bad found d i (differing (checked d m found) found (given d i g′)) g g′ (small-set found d i (checked d m found) n g′))
 
-module _ (copied : ProtectionField) (d : Domain) (i m : ℕ) (h : 192 ≤ m) (k : m < 256) where
+module _ (copied : ProtectionField) (d : Domain) (i m : ℕ) (h : m / 64 % 4 ≡ 3) where
   -- Where both bytes of the guard are copied, the guard that would be generated plays no part.
   pub uncopied : (g g′ : ℕ) → outputField m copied (given d i g) ≡ outputField m copied (given d i g′)
   unfolding outputField merged bytesOf given fieldOf

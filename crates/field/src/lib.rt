@@ -15,6 +15,7 @@ ghost use Rattle.field.specs.Domains as domains;
 ghost use Rattle.field.specs.Fields as fields;
 
 // One side of a transfer: kind 0 has no signature and ignores all its other numbers, kind 1 is T10-DIF.
+#[repr(C)]
 pub struct Domain {
     pub kind: u32,
     pub block_size: u32,

@@ -19,7 +19,9 @@ use Rattle.layout.specs.declared.answer.Verdict.the-variants.{Sound, Malformed,
 use Rattle.layout.specs.Pieces.{Piece, inUse, pieces, size, total}
 use Rattle.layout.specs.Moves.{Within}
 use Rattle.layout.specs.Answers.{verdictOn}
-use Rattle.layout.proofs.AnswerLaws.{length-repeats, sound-shaped, sound-placed, sound-distinct}
+use Rattle.layout.proofs.AnswerLaws.{fits-told}
+use Rattle.layout.proofs.CountLaws.{sound-fits}
+use Rattle.layout.specs.Steps.{Fits}
 use Rattle.key.specs.declared.Signature.{Signature}
 use Rattle.key.specs.declared.Configuration.{Configuration}
 use Rattle.key.specs.declared.Key.{Key}
@@ -30,8 +32,8 @@ use Rattle.key.specs.declared.Outcome.the-variants.{Done, Refused}
 use Rattle.key.specs.declared.Refusal.{Refusal}
 use Rattle.key.specs.declared.Refusal.the-variants.{BadDomain, EscapeTag, CopyMask, BlockSizes, MemoryLength, PartialBlock, PastLayout, ShortWire, NotConfigured}
 use Rattle.key.specs.Numbers.{refuse}
-use Rattle.key.specs.Configuring.{badBlockSize, badDomain, GoodDomain, escapesAlways, sameSize, bothSigned, signatureAnswer, layoutAnswer, then, configureAnswer}
-use Rattle.key.specs.Keys.{freshKey, withSlot, configuredBy, configuring, checking, keep, CameFromCalls}
+use Rattle.key.specs.Configuring.{badBlockSize, badSeed, badDomain, GoodDomain, escapesAlways, sameSize, bothSigned, signatureAnswer, layoutAnswer, then, configureAnswer}
+use Rattle.key.specs.Keys.{freshKey, withSlot, configuredBy, configuring, checking, keep, CameFromCalls, Usable}
 use Rattle.key.specs.Streams.{streamLength, Sized}
 use Rattle.key.specs.Admitting.{partial, openAnswer, transferAnswer, Bounded, Blocks, Admitted}
 
@@ -125,7 +127,7 @@ signature-done s h =
 -- What an accepted configure over n bytes tells: none of 8, 1 to 4, and 5 to 7 applies.
 pub record Accepts (n : ℕ) (c : Configuration) : Type 0 where
   pub limit : n ≤ 16777216
-  pub signs : Signs (c .signature)
+  pub signature : signatureAnswer (c .signature) ≡ Done
   pub sound : verdictOn (c .layout) n ≡ Sound
 
 pub configure-done : (n : ℕ) (c : Configuration) → configureAnswer n c ≡ Done → Accepts n c
@@ -133,7 +135,15 @@ unfolding configureAnswer
 configure-done n c h =
     let a = refuse-done (ltb 16777216 n) MemoryLength (then (signatureAnswer (c .signature)) (layoutAnswer (verdictOn (c .layout) n))) h in
     let b = then-done (signatureAnswer (c .signature)) (layoutAnswer (verdictOn (c .layout) n)) (a .1) in
-    record { limit = ltb-false 16777216 n (a .0); signs = signature-done (c .signature) (b .0); sound = layout-done (verdictOn (c .layout) n) (b .1) }
+    record { limit = ltb-false 16777216 n (a .0); signature = b .0; sound = layout-done (verdictOn (c .layout) n) (b .1) }
+
+seed-small : (n : ℕ) → badSeed n ≡ false → n ≤ 65535
+seed-small n h = go (eqb n 0) (eqb n 0xFFFF) refl refl h
+  where
+    go : (a b : Bool) → eqb n 0 ≡ a → eqb n 0xFFFF ≡ b → and (not a) (not b) ≡ false → n ≤ 65535
+    go true b e f z = omega (arith, eqb-true n 0 e)
+    go false true e f z = omega (arith, eqb-true n 0xFFFF f)
+    go false false e f z = let y : _≡_ {A = ℕ} 0 1 = cc in absurd (omega arith)
 
 -- what answer 1 leaves of a T10-DIF domain
 pub good-domain : (d : Domain) → badDomain d ≡ false → signed d ≡ true → GoodDomain d
@@ -143,54 +153,39 @@ good-domain d h s =
     let size = or-false (not (eqb (d .«block_size» % 8) 0)) _ (b .0) in
     let range = or-false (ltb (d .«block_size») 8) (ltb 4160 (d .«block_size»)) (size .1) in
     let g = or-false (ltb 1 (d .«guard_type»)) _ (b .1) in
+    let t = or-false (badSeed (d .seed)) _ (g .1) in
     record {
       least = ltb-false (d .«block_size») 8 (range .0);
       most = ltb-false 4160 (d .«block_size») (range .1);
       eights = eqb-true (d .«block_size» % 8) 0 (not-false (eqb (d .«block_size» % 8) 0) (size .0));
       guard = ltb-false 1 (d .«guard_type») (g .0);
+      seed = seed-small (d .seed) (t .0);
     }
 
 -- a domain whose blocks can be counted
 pub sized : (d : Domain) → badDomain d ≡ false → Sized d
 sized d h s = good-domain d h s .least
 
--- ---- a layout's total is small
-
-size-within : (n : ℕ) (ps : List Piece) → Within n ps → size ps ≤ length ps * n
-unfolding size Within
-size-within n [] w = omega arith
-size-within n (p ∷ ps) w = omega (arith, w .0, size-within n ps (w .1), suc-mul (length ps) n)
-
-few-pieces : (l : Layout) → l .used * l .repeat ≤ 1024 → length (pieces l) ≤ 1024
-few-pieces l h =
-    let in-use : length (inUse l) ≤ l .used = omega (arith, length-take (l .used) (l .entries)) in
-    omega (
-      arith,
-      length-repeats (inUse l) 0 (l .repeat),
-      mul-le-mul-left (l .repeat) in-use,
-      mul-comm (l .used) (l .repeat),
-    )
-
--- at most 1,024 pieces, each inside a memory of at most 16,777,216 bytes
-pub bounded : (l : Layout) (n : ℕ) → verdictOn l n ≡ Sound → n ≤ 16777216 → Bounded l
-bounded l n h m =
-    let s = sound-shaped l n h in
-    record {
-      used = s .used;
-      few = s .few;
-      small =
-          omega (
-            arith,
-            size-within n (pieces l) (sound-placed l n h .within),
-            mul-le-mul {n₁ = length (pieces l)} {m₁ = n} {n₂ = 1024} {m₂ = 16777216} (few-pieces l (s .few)) m,
-          );
-    }
-
 -- ---- keys from these calls
 
--- what configure accepted for a key that is configured
-pub accepted : (k : Key) → CameFromCalls k → k .configured ≡ true → Accepts (k .«memory_length») (record { signature = k .signature; layout = k .layout })
-accepted k came h = configure-done (k .«memory_length») (record { signature = k .signature; layout = k .layout }) (came .accepted h)
+-- a key from these calls is usable
+pub usable : (k : Key) → CameFromCalls k → Usable k
+usable k came =
+    let g : k .configured ≡ true → Accepts (k .«memory_length») (record { signature = k .signature; layout = k .layout }) = λ h. configure-done _ _ (came .accepted h) in
+    record { limit = λ h. g h .limit; signature = λ h. g h .signature; layout = λ h. sound-fits (k .layout) (k .«memory_length») (g h .sound) }
+
+-- What a configured key holds.
+pub record Held (k : Key) : Type 0 where
+  pub limit : k .«memory_length» ≤ 16777216
+  pub signs : Signs (k .signature)
+  pub fits : Fits (k .layout) (k .«memory_length»)
+  pub bounded : Bounded (k .layout)
+
+pub held : (k : Key) → Usable k → k .configured ≡ true → Held k
+held k u h =
+    let f = fits-told (k .layout) (k .«memory_length») (u .layout h) in
+    let b : total (k .layout) ≤ 16777216 = omega (arith, f .small, u .limit h) in
+    record { limit = u .limit h; signs = signature-done (k .signature) (u .signature h); fits = f; bounded = record { used = f .shaped .used; few = f .shaped .few; small = b } }
 
 pub came-fresh : CameFromCalls freshKey
 came-fresh = record { never = λ h. refl; accepted = λ h. let z : _≡_ {A = ℕ} 0 1 = cc in absurd (omega arith) }
@@ -233,9 +228,9 @@ one-size :
 one-size s h m w = eqb-true (s .memory .«block_size») (s .wire .«block_size») (not-false (sameSize s) (rw (m, w) at h))
 
 -- all that an accepted open tells
-pub admitted : (k : Key) (n x length : ℕ) → CameFromCalls k → openAnswer k n x length ≡ Done → Admitted k n x length
+pub admitted : (k : Key) (n x length : ℕ) → Usable k → openAnswer k n x length ≡ Done → Admitted k n x length
 unfolding openAnswer
-admitted k n x length came h =
+admitted k n x length u h =
     let m = k .signature .memory in
     let w = k .signature .wire in
     let f =
@@ -252,18 +247,16 @@ admitted k n x length came h =
     let conf = not-false (k .configured) (f .0) in
     let same = eqb-true n (k .«memory_length») (not-false (eqb n (k .«memory_length»)) (f .1)) in
     let whole = or-false (partial m length) (partial w length) (f .2) in
-    let g = accepted k came conf in
-    let b = bounded (k .layout) (k .«memory_length») (g .sound) (g .limit) in
+    let g = held k u conf in
     let fits = ltb-false (total (k .layout)) (x + streamLength m length) (f .3) in
     record {
       configured = conf;
       lent = same;
       limit = omega (arith, g .limit);
-      placed = rw same (sound-placed (k .layout) (k .«memory_length») (g .sound));
-      distinct = sound-distinct (k .layout) (k .«memory_length») (g .sound);
-      bounded = b;
+      placed = rw same (g .fits .placed);
+      bounded = g .bounded;
       inside = fits;
-      short = omega (arith, b .small, data-in-stream m length);
+      short = omega (arith, g .bounded .small, data-in-stream m length);
       memory = blocks m length (g .signs .memory) (whole .0);
       wire = blocks w length (g .signs .wire) (whole .1);
       alike = one-size (k .signature) (g .signs .sizes);
@@ -301,7 +294,7 @@ shut d h = record {
 -- both domains of a configuration that configure accepts
 pub escape-shut : (n : ℕ) (c : Configuration) → configureAnswer n c ≡ Done → Shut (c .signature .memory) × Shut (c .signature .wire)
 escape-shut n c h =
-    let g = configure-done n c h .signs in
+    let g = signature-done (c .signature) (configure-done n c h .signature) in
     (shut (c .signature .memory) (g .memory-tag), shut (c .signature .wire) (g .wire-tag))
 
 -- ---- 01's numbers

@@ -7,8 +7,8 @@ use Rattle.field.specs.declared.Domain.{Domain}
 use Rattle.field.specs.Tests.{and, or, not}
 use Rattle.field.specs.Domains.{signed}
 use Rattle.layout.specs.declared.Layout.{Layout}
-use Rattle.layout.specs.Pieces.{places, total}
-use Rattle.layout.specs.Moves.{Placed, Distinct}
+use Rattle.layout.specs.Pieces.{total}
+use Rattle.layout.specs.Moves.{Placed}
 use Rattle.key.specs.declared.Key.{Key}
 use Rattle.key.specs.declared.Outcome.{Outcome}
 use Rattle.key.specs.declared.Outcome.the-variants.{Done}
@@ -38,7 +38,7 @@ transferAnswer k n x length w =
 pub record Bounded (l : Layout) : Type 0 where
   pub used : l .used ≤ 16
   pub few : l .used * l .repeat ≤ 1024
-  pub small : total l ≤ 2 ^ 34
+  pub small : total l ≤ 16777216
 
 -- What an accepted open tells of a T10-DIF domain.
 pub record Blocks (d : Domain) (length : ℕ) : Type 0 where
@@ -51,7 +51,6 @@ pub record Admitted (k : Key) (n x length : ℕ) : Type 0 where
   pub lent : n ≡ k .«memory_length»
   pub limit : n ≤ 16777216
   pub placed : Placed (k .layout) n
-  pub distinct : Distinct (places (k .layout))
   pub bounded : Bounded (k .layout)
   pub inside : x + streamLength (k .signature .memory) length ≤ total (k .layout)
   pub short : length ≤ 2 ^ 34

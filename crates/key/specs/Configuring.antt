@@ -41,6 +41,7 @@ pub record GoodDomain (d : Domain) : Type 0 where
   pub most : d .«block_size» ≤ 4160
   pub eights : d .«block_size» % 8 ≡ 0
   pub guard : d .«guard_type» ≤ 1
+  pub seed : d .seed ≤ 65535
 
 -- 2: a T10-DIF domain has an escape flag and configured application tag 0xFFFF
 abbrev pub escapesAlways : Domain → Bool

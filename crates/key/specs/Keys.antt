@@ -1,12 +1,13 @@
 -- Keys: fresh, configure, check, and which keys come from these calls (01, "What stands" and "Error slot").
 use mathlib.Core.Path.{_≡_}
 use mathlib.Core.Bool.{Bool, true, false}
-use Prim.Native.Nat.{ℕ}
+use Prim.Native.Nat.{ℕ, _≤_}
 use lib.ListN.{replicate}
 use Rattle.field.specs.declared.Domain.{Domain}
 use Rattle.field.specs.declared.Part.{Part}
 use Rattle.field.specs.declared.Part.the-variants.{Guard, Application, Reference}
 use Rattle.layout.specs.declared.Layout.{Layout}
+use Rattle.layout.specs.Answers.{fits}
 use Rattle.key.specs.declared.Signature.{Signature}
 use Rattle.key.specs.declared.Configuration.{Configuration}
 use Rattle.key.specs.declared.Configured.{Configured}
@@ -17,7 +18,7 @@ use Rattle.key.specs.declared.Slot.{Slot}
 use Rattle.key.specs.declared.Slot.the-variants.{Empty, Holding}
 use Rattle.key.specs.declared.Outcome.{Outcome}
 use Rattle.key.specs.declared.Outcome.the-variants.{Done, Refused}
-use Rattle.key.specs.Configuring.{configureAnswer}
+use Rattle.key.specs.Configuring.{signatureAnswer, configureAnswer}
 
 abbrev pub noDomain : Domain
 noDomain = record { kind = 0; «block_size» = 0; «guard_type» = 0; «reference_tag» = 0; seed = 0; «application_tag» = 0; flags = 0 }
@@ -68,3 +69,9 @@ keep (Holding e) new = Holding e
 pub record CameFromCalls (k : Key) : Type 0 where
   pub never : k .configured ≡ false → k .slot ≡ Empty
   pub accepted : k .configured ≡ true → configureAnswer (k .«memory_length») (record { signature = k .signature; layout = k .layout }) ≡ Done
+
+-- The premise of the calls: what a transfer needs of a configured key to be safe and right. Every key from these calls is usable (`proofs/Laws`, usable).
+pub record Usable (k : Key) : Type 0 where
+  pub limit : k .configured ≡ true → k .«memory_length» ≤ 16777216
+  pub signature : k .configured ≡ true → signatureAnswer (k .signature) ≡ Done
+  pub layout : k .configured ≡ true → fits (k .layout) (k .«memory_length») ≡ true

@@ -7,7 +7,7 @@ ghost use Rattle.layout.specs.Pieces as pieces;
 ghost use Rattle.key.specs.Streams.{streamLength, Measured, Sized};
 ghost use Rattle.key.specs.Admitting as admitting;
 ghost use Rattle.key.specs.Admitting.{Bounded};
-ghost use Rattle.key.specs.Keys.{CameFromCalls};
+ghost use Rattle.key.specs.Keys.{Usable};
 use crate::Key;
 use crate::Outcome;
 use crate::Refusal;
@@ -58,7 +58,7 @@ fn past(l: Layout, d: Domain, offset: LayoutOffset, data_length: u64) -> bool
 
 // 14, 8, 9, 10.
 pub fn admit(key: Key, memory: &[u8], offset: LayoutOffset, data_length: u64) -> Outcome
-    requires { ⌜ CameFromCalls key ⌝ }
+    requires { ⌜ Usable key ⌝ }
     ensures { λ r. ⌜ r ≡ admitting.openAnswer key (length (now (memory .entry))) (offset .0) «data_length» ⌝ }
 {
     if !key.configured {
@@ -85,7 +85,7 @@ pub fn admit_transfer(
     offset: LayoutOffset,
     data_length: u64,
 ) -> Outcome
-    requires { ⌜ CameFromCalls key ⌝ }
+    requires { ⌜ Usable key ⌝ }
     ensures { λ r. ⌜ r ≡ admitting.transferAnswer key (length (now (memory .entry))) (offset .0) «data_length» (length (now (wire .entry))) ⌝ }
 {
     let outcome = admit(key, memory, offset, data_length);

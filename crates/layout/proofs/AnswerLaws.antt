@@ -1,6 +1,6 @@
 -- Laws on answers 5, 6 and 7, and what they leave of a layout that is sound.
 use mathlib.Core.Path.{_≡_, refl, ap, sym, _∙_}
-use mathlib.Core.Bool.{Bool, true, false}
+use mathlib.Core.Bool.{Bool, true, false, not}
 use mathlib.Core.List.{List, [], _∷_, _++_, map}
 use Prim.Native.Nat.{ℕ, zero, suc, _+_, _*_, _-_, _/_, _%_, _^_, _<_, _≤_, min, max}
 use native.Mathlib.Nat.{zero-add, zero-mul, suc-mul, mul-comm, mul-le-mul, mul-le-mul-right, mod-lt, div-add-mod', div-lt-iff-lt-mul}
@@ -14,10 +14,10 @@ use Rattle.layout.specs.declared.Entry.{Entry}
 use Rattle.layout.specs.declared.Layout.{Layout}
 use Rattle.layout.specs.declared.answer.Verdict.the-variants.{Sound, Malformed, Outside, Overlapping}
 use Rattle.layout.specs.declared.answer.Extent.{Extent}
-use Rattle.layout.specs.Pieces.{Piece, end, piece, inUse, repeats, pieces, from, placesOf, places}
+use Rattle.layout.specs.Pieces.{Piece, end, piece, inUse, repeats, pieces, total, from, placesOf, places}
 use Rattle.layout.specs.Moves.{Within, Placed, Distinct, Below}
-use Rattle.layout.specs.Answers.{or, someCountZero, malformed, someBeyond, share, sharesWith, someShare, pickVerdict, verdictOn}
-use Rattle.layout.specs.Steps.{none, Shaped, Spans, nowhere}
+use Rattle.layout.specs.Answers.{or, someCountZero, malformed, someBeyond, share, sharesWith, someShare, pickVerdict, verdictOn, fits}
+use Rattle.layout.specs.Steps.{none, Shaped, Fits, Spans, nowhere}
 use Rattle.layout.proofs.PieceLaws.{length-from, getD-from}
 
 or-true : (a : Bool) → or a true ≡ true
@@ -336,6 +336,20 @@ verdict-sound true b c h = let z : _≡_ {A = ℕ} 0 1 = cc in absurd (omega ari
 verdict-sound false true c h = let z : _≡_ {A = ℕ} 0 1 = cc in absurd (omega arith)
 verdict-sound false false true h = let z : _≡_ {A = ℕ} 0 1 = cc in absurd (omega arith)
 verdict-sound false false false h = (refl, refl, refl)
+
+none-of-three : (a b c : Bool) → not (or a (or b c)) ≡ true → (a ≡ false) × (b ≡ false) × (c ≡ false)
+none-of-three true b c h = let z : _≡_ {A = ℕ} 0 1 = cc in absurd (omega arith)
+none-of-three false true c h = let z : _≡_ {A = ℕ} 0 1 = cc in absurd (omega arith)
+none-of-three false false true h = let z : _≡_ {A = ℕ} 0 1 = cc in absurd (omega arith)
+none-of-three false false false h = (refl, refl, refl)
+
+-- what a layout that fits has
+pub fits-told : (l : Layout) (n : ℕ) → fits l n ≡ true → Fits l n
+unfolding fits
+fits-told l n h =
+    let a = none-of-three (malformed l) (someBeyond n (pieces l)) (ltb n (total l)) h in
+    let s = shaped l (a .0) in
+    record { shaped = s; placed = record { used = s .used; within = beyond-within n (pieces l) (a .1) }; small = ltb-false n (total l) (a .2) }
 
 -- none of the three holds of a sound layout
 pub sound : (l : Layout) (n : ℕ) → verdictOn l n ≡ Sound → (malformed l ≡ false) × (someBeyond n (pieces l) ≡ false) × (someShare (pieces l) ≡ false)

@@ -5,13 +5,13 @@ use Prim.Native.Nat.{ℕ, zero, suc, _≤_, _<_, zero-le, suc-le-suc}
 use native.Mathlib.Omega.{arith}
 use lib.Dec.{eqb}
 use lib.ListN.{length, getD}
-use borrow.Author.Tests.{eqb-true, eqb-false}
+use borrow.Author.Tests.{eqb-true, eqb-false, le-ltb}
 use Rattle.layout.specs.declared.Layout.{Layout}
 use Rattle.layout.specs.declared.answer.Verdict.the-variants.{Sound}
 use Rattle.layout.specs.Pieces.{places, total}
-use Rattle.layout.specs.Answers.{verdictOn}
+use Rattle.layout.specs.Answers.{verdictOn, fits}
 use Rattle.layout.proofs.PieceLaws.{length-places}
-use Rattle.layout.proofs.AnswerLaws.{sound-distinct, sound-below}
+use Rattle.layout.proofs.AnswerLaws.{sound, sound-distinct, sound-below}
 
 -- f without the value n: where it was, the value at m stands
 abbrev other : Bool → ℕ → ℕ → ℕ
@@ -46,3 +46,10 @@ pub sound-total : (l : Layout) (n : ℕ) → verdictOn l n ≡ Sound → total l
 sound-total l n s =
     let e = length-places l in
     omega (arith, pigeonhole n (length (places l)) (λ i. getD (places l) i 0) (sound-below l n s) (sound-distinct l n s))
+
+-- a sound layout fits
+pub sound-fits : (l : Layout) (n : ℕ) → verdictOn l n ≡ Sound → fits l n ≡ true
+unfolding fits
+sound-fits l n s =
+    let a = sound l n s in
+    rw (a .0, a .1, le-ltb n (total l) (sound-total l n s))

@@ -1,5 +1,5 @@
 -- Answers 5, 6 and 7 (01, "Numbered answers"): what is wrong with a layout over a memory of n bytes.
-use mathlib.Core.Bool.{Bool, true, false}
+use mathlib.Core.Bool.{Bool, true, false, not}
 use mathlib.Core.List.{List, [], _∷_}
 use Prim.Native.Nat.{ℕ, _*_, min, max}
 use lib.Dec.{ltb, eqb}
@@ -7,7 +7,7 @@ use Rattle.layout.specs.declared.Entry.{Entry}
 use Rattle.layout.specs.declared.Layout.{Layout}
 use Rattle.layout.specs.declared.answer.Verdict.{Verdict}
 use Rattle.layout.specs.declared.answer.Verdict.the-variants.{Sound, Malformed, Outside, Overlapping}
-use Rattle.layout.specs.Pieces.{Piece, end, inUse, pieces}
+use Rattle.layout.specs.Pieces.{Piece, end, inUse, pieces, total}
 
 abbrev pub or : Bool → Bool → Bool
 or true b = true
@@ -54,9 +54,6 @@ verdictOn l n =
     (pickVerdict (someBeyond n (pieces l)) Outside
     (pickVerdict (someShare (pieces l)) Overlapping Sound))
 
--- 01's number for each verdict
-abbrev pub number : Verdict → ℕ
-number Sound = 0
-number Malformed = 5
-number Outside = 6
-number Overlapping = 7
+-- What the moves need of a layout over n bytes: neither 5 nor 6 applies, and its total is no more than n. A sound layout has it.
+unfoldable pub fits : Layout → ℕ → Bool
+fits l n = not (or (malformed l) (or (someBeyond n (pieces l)) (ltb n (total l))))

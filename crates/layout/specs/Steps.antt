@@ -47,6 +47,12 @@ pub record Shaped (l : Layout) : Type 0 where
   pub few : l .used * l .repeat ≤ 1024
   pub counts : (i : ℕ) → i < length (inUse l) → 0 < getD (inUse l) i none .count
 
+-- What the moves need of a layout over n bytes, taken apart.
+pub record Fits (l : Layout) (n : ℕ) : Type 0 where
+  pub shaped : Shaped l
+  pub placed : Placed l n
+  pub small : total l ≤ n
+
 -- what stands past the last piece
 abbrev pub nowhere : Piece
 nowhere = record { start = 0; count = 0 }

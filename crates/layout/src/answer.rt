@@ -11,6 +11,7 @@ use crate::Layout;
 use crate::numbers::greater;
 use crate::numbers::lesser;
 use crate::places::begin;
+use crate::places::total;
 
 // What is wrong with a layout, in 01's order, or nothing.
 pub enum Verdict {
@@ -137,6 +138,23 @@ fn overlapping(l: Layout) -> bool
         k += 1;
     }
     met
+}
+
+// Whether the moves can run over the layout in so many bytes of memory: judge's tests without the search for an overlap, whose
+// time grows with the square of the pieces, and that the total is no more than the memory.
+pub fn fits(l: Layout, memory_length: u64) -> bool
+    ensures { λ r. ⌜ r ≡ answers.fits l «memory_length» ⌝ }
+{
+    if malformed(l) {
+        return false;
+    }
+    if outside(l, memory_length) {
+        return false;
+    }
+    if memory_length < total(l) {
+        return false;
+    }
+    true
 }
 
 // The answer that 01's table gives for this layout over a memory of so many bytes.

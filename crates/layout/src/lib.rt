@@ -6,6 +6,7 @@ mod offset;
 mod places;
 
 pub use answer::Verdict;
+pub use answer::fits;
 pub use answer::judge;
 pub use moves::gather;
 pub use moves::scatter;
@@ -17,6 +18,7 @@ pub use places::total;
 pub use places::walk;
 
 // count bytes from start on; the next repeat begins skip bytes behind them.
+#[repr(C)]
 pub struct Entry {
     pub start: MemoryOffset,
     pub count: u32,
@@ -24,6 +26,7 @@ pub struct Entry {
 }
 
 // The first used entries, repeat times over. A list layout has repeat 1.
+#[repr(C)]
 pub struct Layout {
     pub entries: [Entry; 16],
     pub used: u32,

@@ -4,9 +4,11 @@ ghost use mathlib.Core.Path.{_≡_};
 ghost use Prim.Native.Nat.{_+_, _<_, _^_};
 
 // A place in the layout's bytes, counted from the layout's first byte.
+#[repr(C)]
 pub struct LayoutOffset(pub(crate) u64);
 
 // A place in the lent memory.
+#[repr(C)]
 pub struct MemoryOffset(pub(crate) u64);
 
 impl LayoutOffset {

@@ -19,14 +19,14 @@ use Rattle.key.specs.declared.Refusal.{Refusal}
 use Rattle.key.specs.Keys.{CameFromCalls}
 use Rattle.key.specs.Streams.{streamLength}
 use Rattle.key.specs.Admitting.{openAnswer}
-use Rattle.key.proofs.Laws.{admitted, came-record}
+use Rattle.key.proofs.Laws.{usable, admitted, came-record}
 use Rattle.engine.specs.declared.Progress.{Progress}
 use Rattle.engine.specs.Streams.{outUnit}
 use Rattle.engine.specs.Feeding.{begun, fed, emitted}
 use Rattle.engine.specs.Parts.{taken, written}
 use Rattle.engine.proofs.Feeding.{fed-append, emitted-append}
 use Rattle.engine.proofs.FeedLaws.{fed-after}
-use Rattle.transfer.specs.Rules.{receiveRule, Ranged}
+use Rattle.transfer.specs.Rules.{receiveRule}
 use Rattle.packets.specs.declared.Session.{Session}
 use Rattle.packets.specs.declared.Opened.{Opened}
 use Rattle.packets.specs.declared.Packed.{Packed}
@@ -39,7 +39,7 @@ use Rattle.packets.specs.Lists.{Made, played, AllBytes}
 use Rattle.packets.specs.Demand3.{Demand3}
 use Rattle.transfer.specs.Transferring.{receiving}
 use Rattle.packets.proofs.PacketLaws.{answer-0, finish-done, taken-all, bytes-append, packet-told, session-begun, some-unit}
-use Rattle.packets.proofs.RuleLaws.{sessionAt, session-at, written-is, stands-at, totals-at}
+use Rattle.packets.proofs.RuleLaws.{sessionAt, opened-so, session-at, written-is, stands-at, totals-at}
 
 -- ---- what a call's answer is, by its outcome
 
@@ -84,9 +84,9 @@ finishing-outcome s = go (finishAnswer s)
 
 -- ---- along a list
 
-module _ (k : Key) (atOpen : List ℕ) (start : LayoutOffset) (count : ℕ) (c : CameFromCalls k) (o : openAnswer k (length atOpen) (start .0) count ≡ Done) (g : Ranged (receiveRule (k .signature))) where
+module _ (k : Key) (atOpen : List ℕ) (start : LayoutOffset) (count : ℕ) (c : CameFromCalls k) (o : openAnswer k (length atOpen) (start .0) count ≡ Done) where
   at : List ℕ → Session
-  at came = sessionAt k atOpen start count c o g came
+  at came = sessionAt k atOpen start count c o came
 
   shown : List ℕ → List ℕ
   shown came = scattered atOpen (drop (start .0) (places (k .layout))) (emitted (receiveRule (k .signature)) (begun (receiveRule (k .signature)) Empty) came)
@@ -94,25 +94,25 @@ module _ (k : Key) (atOpen : List ℕ) (start : LayoutOffset) (count : ℕ) (c :
   module _ (came : List ℕ) (b : Bytes came) (h : length came ≤ streamLength (k .signature .wire) count) where
     from-calls : SessionFromCalls (at came)
     unfolding at
-    from-calls = session-at k atOpen start count c o g came b h
+    from-calls = session-at k atOpen start count c o came b h
 
     -- the code's tests are the rule's
     packet-ruled : (m n : ℕ) → packetAnswer (at came) m n ≡ packetRule k atOpen (start .0) count came m n
     unfolding packetAnswer at
-    packet-ruled m n = rw (taken-all (at came) from-calls came b h)
+    packet-ruled m n = rw (taken-all (at came) (usable k c) (opened-so k atOpen start count c o) came)
 
     finish-ruled : finishAnswer (at came) ≡ finishRule k atOpen (start .0) count came
     unfolding finishAnswer at
-    finish-ruled = rw (taken-all (at came) from-calls came b h)
+    finish-ruled = rw (taken-all (at came) (usable k c) (opened-so k atOpen start count c o) came)
 
     stands : Stands k atOpen (start .0) count came (shown came) (recorded (at came))
     unfolding at shown
-    stands = stands-at k atOpen start count c o g came b h
+    stands = stands-at k atOpen start count c o came b h
 
     -- the key that ends the list
     ended : Ended k atOpen (start .0) count came (shown came) Done (keyOf (at came))
     unfolding at
-    ended = record { done = refl; key = refl; stands = stands; calls = came-record k _ c (admitted k (length atOpen) (start .0) count c o .configured) }
+    ended = record { done = refl; key = refl; stands = stands; calls = came-record k _ c (admitted k (length atOpen) (start .0) count (usable k c) o .configured) }
 
     -- the session after an accepted packet
     session-next : (bytes : List ℕ) → further (at came) (fed (ruleOf (at came)) (at came .progress) bytes) ≡ at (came ++ bytes)
@@ -125,7 +125,7 @@ module _ (k : Key) (atOpen : List ℕ) (start : LayoutOffset) (count : ℕ) (c :
     unfolding at shown
     memory-next bytes =
         let r = receiveRule (k .signature) in
-        let w = fed-after r (begun r Empty) (session-begun (at came) from-calls) (some-unit (at came) from-calls) came .2 in
+        let w = fed-after r (begun r Empty) (session-begun (at came) (usable k c) (opened-so k atOpen start count c o)) (some-unit (at came) (usable k c) (opened-so k atOpen start count c o)) came .2 in
         let e : start .0 + written r (fed r (begun r Empty) came) ≡ start .0 + length (emitted r (begun r Empty) came) = omega (arith, w, zero-mul (outUnit r)) in
         rw (e, emitted-append r (begun r Empty) came bytes)
         (sym (scattered-append atOpen (drop (start .0) (places (k .layout))) (emitted r (begun r Empty) came) (emitted r (fed r (begun r Empty) came) bytes) ∙ rw (drop-drop (length (emitted r (begun r Empty) came)) (start .0) (places (k .layout)))))
@@ -146,15 +146,15 @@ module _ (k : Key) (atOpen : List ℕ) (start : LayoutOffset) (count : ℕ) (c :
           }) (shown (came ++ bytes))
       unfolding at shown
       accepted-next =
-          let t = taken-all (at came) from-calls (came ++ bytes) more-bytes more-length in
-          let w = written-is k atOpen start count c o g (came ++ bytes) more-bytes more-length in
+          let t = taken-all (at came) (usable k c) (opened-so k atOpen start count c o) (came ++ bytes) in
+          let w = written-is k atOpen start count c o (came ++ bytes) more-bytes more-length in
           record {
             outcome = refl;
             taken = t;
             written = w;
-            stands = stands-at k atOpen start count c o g (came ++ bytes) more-bytes more-length;
-            session = session-at k atOpen start count c o g (came ++ bytes) more-bytes more-length;
-            whole = λ e. let z = totals-at k atOpen start count c o g (came ++ bytes) more-bytes more-length e in (t ∙ z .0, w ∙ z .1);
+            stands = stands-at k atOpen start count c o (came ++ bytes) more-bytes more-length;
+            session = session-at k atOpen start count c o (came ++ bytes) more-bytes more-length;
+            whole = λ e. let z = totals-at k atOpen start count c o (came ++ bytes) more-bytes more-length e in (t ∙ z .0, w ∙ z .1);
           }
 
     -- an accepted packet
@@ -172,7 +172,7 @@ module _ (k : Key) (atOpen : List ℕ) (start : LayoutOffset) (count : ℕ) (c :
     packet-next bytes answer after d ea em eo =
         let e : packetAnswer (at came) (length (shown came)) (length bytes) ≡ Done = sym (packing-outcome (at came) (length (shown came)) bytes) ∙ (ap (λ (p : Packed). p .outcome) (sym ea) ∙ eo) in
         let told = packet-told (at came) (length (shown came)) (length bytes) e in
-        let l : length came + length bytes ≤ streamLength (k .signature .wire) count = omega (arith, told .1, taken-all (at came) from-calls came b h) in
+        let l : length came + length bytes ≤ streamLength (k .signature .wire) count = omega (arith, told .1, taken-all (at came) (usable k c) (opened-so k atOpen start count c o) came) in
         let f : fed (receiveRule (k .signature)) (fed (receiveRule (k .signature)) (begun (receiveRule (k .signature)) Empty) came) bytes ≡ fed (receiveRule (k .signature)) (begun (receiveRule (k .signature)) Empty) (came ++ bytes) =
         sym (fed-append (receiveRule (k .signature)) (begun (receiveRule (k .signature)) Empty) came bytes) in
         let a = ea ∙ packed-done (at came) (length (shown came)) bytes e in
@@ -259,9 +259,9 @@ module _ (k : Key) (atOpen : List ℕ) (start : LayoutOffset) (count : ℕ) (c :
 -- Demand 3.
 pub packets-follow-the-rule : Demand3
 unfolding at shown fed emitted
-packets-follow-the-rule k memory start count c g answer e d calls m =
+packets-follow-the-rule k memory start count c answer e d calls m =
     let o : openAnswer k (length memory) (start .0) count ≡ Done = ap (λ (a : Opened). a .outcome) (sym e) ∙ d in
-    follow k memory start count c o g [] (λ i. omega arith) (omega arith) (ap (λ (a : Opened). a .session) e) (sym (scattered-none memory (drop (start .0) (places (k .layout))))) m
+    follow k memory start count c o [] (λ i. omega arith) (omega arith) (ap (λ (a : Opened). a .session) e) (sym (scattered-none memory (drop (start .0) (places (k .layout))))) m
 
 -- ---- and there are such lists: whatever the packets
 
@@ -285,35 +285,35 @@ played-made s now (bytes ∷ more) b =
 
 -- ---- a caller that hands over a whole stream packet by packet
 
-module _ (k : Key) (atOpen : List ℕ) (start : LayoutOffset) (count : ℕ) (c : CameFromCalls k) (o : openAnswer k (length atOpen) (start .0) count ≡ Done) (g : Ranged (receiveRule (k .signature)))
+module _ (k : Key) (atOpen : List ℕ) (start : LayoutOffset) (count : ℕ) (c : CameFromCalls k) (o : openAnswer k (length atOpen) (start .0) count ≡ Done)
     (came : List ℕ) (b : Bytes came) (h : length came ≤ streamLength (k .signature .wire) count) where
   -- the session that an accepted packet returns
   pub next-session : (m : ℕ) → m ≡ k .«memory_length» → (bytes : List ℕ) → length came + length bytes ≤ streamLength (k .signature .wire) count
-      → packing (sessionAt k atOpen start count c o g came) m bytes .session ≡ sessionAt k atOpen start count c o g (came ++ bytes)
+      → packing (sessionAt k atOpen start count c o came) m bytes .session ≡ sessionAt k atOpen start count c o (came ++ bytes)
   unfolding at
   next-session m e bytes l =
-      let s = sessionAt k atOpen start count c o g came in
-      let t = taken-all s (session-at k atOpen start count c o g came b h) came b h in
+      let s = sessionAt k atOpen start count c o came in
+      let t = taken-all s (usable k c) (opened-so k atOpen start count c o) came in
       let a : packetAnswer s m (length bytes) ≡ Done = sym (answer-0 s m (length bytes) e (length came) (streamLength (k .signature .wire) count) (sym t) refl h (omega arith)) in
-      ap (λ (p : Packed). p .session) (packed-done s m bytes a) ∙ session-next k atOpen start count c o g came b h bytes
+      ap (λ (p : Packed). p .session) (packed-done s m bytes a) ∙ session-next k atOpen start count c o came b h bytes
 
   -- memory after an accepted packet, lent as it stands
   pub next-memory : (now : List ℕ) → now ≡ scattered atOpen (drop (start .0) (places (k .layout))) (emitted (receiveRule (k .signature)) (begun (receiveRule (k .signature)) Empty) came)
       → length now ≡ k .«memory_length» → (bytes : List ℕ) → length came + length bytes ≤ streamLength (k .signature .wire) count
-      → memoryPacked (sessionAt k atOpen start count c o g came) now bytes
+      → memoryPacked (sessionAt k atOpen start count c o came) now bytes
       ≡ scattered atOpen (drop (start .0) (places (k .layout))) (emitted (receiveRule (k .signature)) (begun (receiveRule (k .signature)) Empty) (came ++ bytes))
   unfolding at shown
   next-memory now en e bytes l =
-      let s = sessionAt k atOpen start count c o g came in
-      let t = taken-all s (session-at k atOpen start count c o g came b h) came b h in
+      let s = sessionAt k atOpen start count c o came in
+      let t = taken-all s (usable k c) (opened-so k atOpen start count c o) came in
       let a : packetAnswer s (length now) (length bytes) ≡ Done = sym (answer-0 s (length now) (length bytes) e (length came) (streamLength (k .signature .wire) count) (sym t) refl h (omega arith)) in
-      memory-done s now bytes a ∙ rw en (memory-next k atOpen start count c o g came b h bytes)
+      memory-done s now bytes a ∙ rw en (memory-next k atOpen start count c o came b h bytes)
 
   -- finish once all came: one receive's key
   pub finish-key : length came ≡ streamLength (k .signature .wire) count
-      → finishing (sessionAt k atOpen start count c o g came) .key ≡ receiving k atOpen came (start .0) count .key
+      → finishing (sessionAt k atOpen start count c o came) .key ≡ receiving k atOpen came (start .0) count .key
   finish-key e =
-      let s = sessionAt k atOpen start count c o g came in
-      let t = taken-all s (session-at k atOpen start count c o g came b h) came b h in
+      let s = sessionAt k atOpen start count c o came in
+      let t = taken-all s (usable k c) (opened-so k atOpen start count c o) came in
       ap (λ (f : Finished). f .key) (sym (finish-done s (length came) (streamLength (k .signature .wire) count) (sym t) refl (omega arith) (keyOf s) refl))
-      ∙ stands-at k atOpen start count c o g came b h .whole e .1
+      ∙ stands-at k atOpen start count c o came b h .whole e .1

@@ -19,7 +19,7 @@ use Rattle.key.specs.declared.Outcome.the-variants.{Done}
 use Rattle.key.specs.Keys.{keep, withSlot, CameFromCalls}
 use Rattle.key.specs.Streams.{streamLength}
 use Rattle.key.specs.Admitting.{openAnswer, transferAnswer}
-use Rattle.key.proofs.Laws.{admitted}
+use Rattle.key.proofs.Laws.{usable, admitted}
 use Rattle.engine.specs.Streams.{inBlock, inUnit, outUnit}
 use Rattle.engine.specs.Transfers.{firstError}
 use Rattle.engine.specs.Feeding.{begun, fed, emitted}
@@ -28,7 +28,7 @@ use Rattle.engine.specs.Parts.{written}
 use Rattle.engine.proofs.Units.{unit-within, errors-first}
 use Rattle.engine.proofs.Feeding.{emitted-append, reached-after}
 use Rattle.engine.proofs.FeedLaws.{fed-after}
-use Rattle.transfer.specs.Rules.{receiveRule, outputOf, Ranged}
+use Rattle.transfer.specs.Rules.{receiveRule, outputOf}
 use Rattle.transfer.specs.Transferring.{receiving, memoryReceived}
 use Rattle.transfer.proofs.Laws.{Whole, whole}
 use Rattle.packets.specs.declared.Session.{Session}
@@ -41,31 +41,34 @@ one-way : (i j u a b : ℕ) → i * u + a ≡ j * u + b → a < u → b < u → 
 one-way i j u a b e h k =
     elim (decLt i j) [ yes l ↦ absurd (omega (arith, unit-within i j u l)) | no l ↦ elim (decLt j i) [ yes g ↦ absurd (omega (arith, unit-within j i u g)) | no g ↦ omega arith ] ]
 
-module _ (k : Key) (atOpen : List ℕ) (start : LayoutOffset) (count : ℕ) (c : CameFromCalls k) (o : openAnswer k (length atOpen) (start .0) count ≡ Done) (g : Ranged (receiveRule (k .signature))) where
+module _ (k : Key) (atOpen : List ℕ) (start : LayoutOffset) (count : ℕ) (c : CameFromCalls k) (o : openAnswer k (length atOpen) (start .0) count ≡ Done) where
   -- the session after the bytes `came`
   abbrev pub sessionAt : List ℕ → Session
   sessionAt came = record { key = k; start = start; length = count; progress = fed (receiveRule (k .signature)) (begun (receiveRule (k .signature)) Empty) came }
 
   pub lent-length : length atOpen ≡ k .«memory_length»
-  lent-length = admitted k (length atOpen) (start .0) count c o .lent
+  lent-length = admitted k (length atOpen) (start .0) count (usable k c) o .lent
+
+  pub opened-so : openAnswer k (k .«memory_length») (start .0) count ≡ Done
+  opened-so = rw lent-length at o
 
   module _ (came : List ℕ) (b : Bytes came) (h : length came ≤ streamLength (k .signature .wire) count) where
     pub session-at : SessionFromCalls (sessionAt came)
-    session-at = record { key = c; opened = rw lent-length at o; ranged = g; came = came; bytes = b; fits = h; progress = refl }
+    session-at = record { key = c; opened = opened-so; came = came; bytes = b; fits = h; progress = refl }
 
     R : Reached (receiveRule (k .signature)) Empty came (sessionAt came .progress) (emitted (receiveRule (k .signature)) (begun (receiveRule (k .signature)) Empty) came)
-    R = reached-after (receiveRule (k .signature)) (engine-ready (sessionAt came) session-at .matched) Empty came b .0
+    R = reached-after (receiveRule (k .signature)) (engine-ready (sessionAt came) (usable k c) opened-so .matched) Empty came b .0
 
     begun-unit : sessionAt came .progress .input .at < inUnit (receiveRule (k .signature))
-    begun-unit = reached-after (receiveRule (k .signature)) (engine-ready (sessionAt came) session-at .matched) Empty came b .1
+    begun-unit = reached-after (receiveRule (k .signature)) (engine-ready (sessionAt came) (usable k c) opened-so .matched) Empty came b .1
 
     counted : sessionAt came .progress .input .index * inUnit (receiveRule (k .signature)) + sessionAt came .progress .input .at ≡ length came
-    counted = taken-all (sessionAt came) session-at came b h
+    counted = taken-all (sessionAt came) (usable k c) opened-so came
 
     units : sessionAt came .progress .input .index ≡ length came / inUnit (receiveRule (k .signature))
     units =
         one-way _ _ (inUnit (receiveRule (k .signature))) _ (length came % inUnit (receiveRule (k .signature)))
-        (counted ∙ sym (div-add-mod' (length came) (inUnit (receiveRule (k .signature))))) begun-unit (mod-lt (length came) (some-unit (sessionAt came) session-at))
+        (counted ∙ sym (div-add-mod' (length came) (inUnit (receiveRule (k .signature))))) begun-unit (mod-lt (length came) (some-unit (sessionAt came) (usable k c) opened-so))
 
     over : sessionAt came .progress .input .at ≡ length came % inUnit (receiveRule (k .signature))
     over = omega (arith, counted, div-add-mod' (length came) (inUnit (receiveRule (k .signature))), ap (λ (i : ℕ). i * inUnit (receiveRule (k .signature))) units)
@@ -78,13 +81,13 @@ module _ (k : Key) (atOpen : List ℕ) (start : LayoutOffset) (count : ℕ) (c :
     shown-length : length (emitted (receiveRule (k .signature)) (begun (receiveRule (k .signature)) Empty) came) ≡ shownAfter (receiveRule (k .signature)) (length came)
     shown-length =
         let r = receiveRule (k .signature) in
-        let w = fed-after r (begun r Empty) (session-begun (sessionAt came) session-at) (some-unit (sessionAt came) session-at) came .2 in
+        let w = fed-after r (begun r Empty) (session-begun (sessionAt came) (usable k c) opened-so) (some-unit (sessionAt came) (usable k c) opened-so) came .2 in
         omega (arith, w, written-is, zero-mul (outUnit r))
 
     -- what a whole stream gives
     all : (rest : List ℕ) → Bytes rest → length (came ++ rest) ≡ streamLength (k .signature .wire) count
         → Whole (receiveRule (k .signature)) (came ++ rest) count (streamLength (k .signature .memory) count)
-    all rest d e = whole (receiveRule (k .signature)) count _ _ (engine-ready (sessionAt came) session-at) (came ++ rest) (bytes-append came rest b d) e
+    all rest d e = whole (receiveRule (k .signature)) count _ _ (engine-ready (sessionAt came) (usable k c) opened-so) (came ++ rest) (bytes-append came rest b d) e
 
     -- the rule's output begins with what was shown
     shown-is : (rest : List ℕ) → Bytes rest → length (came ++ rest) ≡ streamLength (k .signature .wire) count

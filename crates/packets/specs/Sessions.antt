@@ -2,7 +2,7 @@
 use mathlib.Core.Path.{_≡_}
 use mathlib.Core.Bool.{Bool}
 use mathlib.Core.List.{List, []}
-use Prim.Native.Nat.{ℕ, zero, _+_, _≤_}
+use Prim.Native.Nat.{ℕ, zero, _+_, _≤_, _<_, min}
 use lib.Dec.{eqb, ltb}
 use lib.ListN.{length, drop}
 use Rattle.guard.specs.Guards.{Bytes}
@@ -17,14 +17,15 @@ use Rattle.key.specs.declared.Outcome.{Outcome}
 use Rattle.key.specs.declared.Outcome.the-variants.{Done, Refused}
 use Rattle.key.specs.declared.Refusal.the-variants.{MemoryLength, LongPacket, BytesToCome}
 use Rattle.key.specs.Numbers.{refuse}
-use Rattle.key.specs.Keys.{keep, withSlot, CameFromCalls}
+use Rattle.key.specs.Keys.{keep, withSlot, CameFromCalls, Usable}
 use Rattle.key.specs.Streams.{streamLength}
 use Rattle.key.specs.Admitting.{openAnswer}
 use Rattle.engine.specs.declared.Rule.{Rule}
 use Rattle.engine.specs.declared.Progress.{Progress}
+use Rattle.engine.specs.Streams.{inBlock, inUnit}
 use Rattle.engine.specs.Feeding.{begun, fed, emitted}
 use Rattle.engine.specs.Parts.{taken, written}
-use Rattle.transfer.specs.Rules.{receiveRule, Ranged}
+use Rattle.transfer.specs.Rules.{receiveRule}
 use Rattle.transfer.specs.Transferring.{becomes}
 use Rattle.packets.specs.declared.Session.{Session}
 use Rattle.packets.specs.declared.Opened.{Opened}
@@ -65,11 +66,21 @@ keyOf s = withSlot (s .key) (recorded s)
 pub record SessionFromCalls (s : Session) : Type 0 where
   pub key : CameFromCalls (s .key)
   pub opened : openAnswer (s .key) (s .key .«memory_length») (s .start .0) (s .length) ≡ Done
-  pub ranged : Ranged (ruleOf s)
   pub came : List ℕ
   pub bytes : Bytes came
   pub fits : length came ≤ wireLength s
   pub progress : s .progress ≡ fed (ruleOf s) (begun (ruleOf s) Empty) came
+
+-- The premise of packet, finish and abandon: an accepted open of a usable key, both sides in step, and no more bytes than its wire has. Every session from
+-- these calls has it (`proofs/PacketLaws`, underway).
+pub record Underway (s : Session) : Type 0 where
+  pub key : Usable (s .key)
+  pub opened : openAnswer (s .key) (s .key .«memory_length») (s .start .0) (s .length) ≡ Done
+  pub index : s .progress .output .index ≡ s .progress .input .index
+  pub at : s .progress .output .at ≡ min (s .progress .input .at) (inBlock (ruleOf s))
+  pub within : s .progress .input .at < inUnit (ruleOf s)
+  pub eight : length (s .progress .held) ≡ 8
+  pub fits : takenBy s ≤ wireLength s
 
 -- ---- packet
 

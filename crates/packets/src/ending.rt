@@ -1,7 +1,7 @@
 // Finish and abandon.
 ghost use mathlib.Core.Path.{_≡_};
 ghost use Rattle.packets.specs.Sessions as sessions;
-ghost use Rattle.packets.specs.Sessions.{SessionFromCalls};
+ghost use Rattle.packets.specs.Sessions.{Underway};
 use crate::Abandoned;
 use crate::Finished;
 use crate::Session;
@@ -23,7 +23,7 @@ fn key_of(s: Session) -> Key
 
 // Ends the transfer once all wire bytes came. Before that it hands the session back; the answer's key is the one given to open.
 pub fn finish(session: Session) -> Finished
-    requires { ⌜ SessionFromCalls session ⌝ }
+    requires { ⌜ Underway session ⌝ }
     ensures { λ r. ⌜ r ≡ sessions.finishing session ⌝ }
 {
     if taken(session) < wire_length(session) {
@@ -43,7 +43,7 @@ pub fn finish(session: Session) -> Finished
 
 // Ends the transfer wherever it is.
 pub fn abandon(session: Session) -> Abandoned
-    requires { ⌜ SessionFromCalls session ⌝ }
+    requires { ⌜ Underway session ⌝ }
     ensures { λ r. ⌜ r ≡ sessions.abandoning session ⌝ }
 {
     Abandoned {

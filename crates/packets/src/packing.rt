@@ -2,7 +2,7 @@
 ghost use mathlib.Core.Path.{_≡_};
 ghost use lib.ListN.{length};
 ghost use Rattle.packets.specs.Sessions as sessions;
-ghost use Rattle.packets.specs.Sessions.{SessionFromCalls};
+ghost use Rattle.packets.specs.Sessions.{Underway};
 use crate::Packed;
 use crate::Session;
 use key::Outcome;
@@ -10,7 +10,7 @@ use key::Refusal;
 
 // How many wire bytes have come.
 pub(crate) fn taken(s: Session) -> u64
-    requires { ⌜ SessionFromCalls s ⌝ }
+    requires { ⌜ Underway s ⌝ }
     ensures { λ r. ⌜ r ≡ sessions.takenBy s ⌝ }
 {
     let progress = s.progress;
@@ -20,7 +20,7 @@ pub(crate) fn taken(s: Session) -> u64
 
 // How many wire bytes the whole transfer has.
 pub(crate) fn wire_length(s: Session) -> u64
-    requires { ⌜ SessionFromCalls s ⌝ }
+    requires { ⌜ Underway s ⌝ }
     ensures { λ r. ⌜ r ≡ sessions.wireLength s ⌝ }
 {
     let key = s.key;
@@ -30,7 +30,7 @@ pub(crate) fn wire_length(s: Session) -> u64
 
 // 8, 12.
 fn answer(s: Session, memory: &[u8], bytes: &[u8]) -> Outcome
-    requires { ⌜ SessionFromCalls s ⌝ }
+    requires { ⌜ Underway s ⌝ }
     ensures { λ r. ⌜ r ≡ sessions.packetAnswer s (length (now (memory .entry))) (length (now (bytes .entry))) ⌝ }
 {
     let key = s.key;
@@ -45,7 +45,7 @@ fn answer(s: Session, memory: &[u8], bytes: &[u8]) -> Outcome
 
 // Takes the next wire bytes, which may end anywhere.
 pub fn packet(session: Session, memory: &mut [u8], bytes: &[u8]) -> Packed
-    requires { ⌜ SessionFromCalls session ⌝ }
+    requires { ⌜ Underway session ⌝ }
     ensures { λ r. ⌜ r ≡ sessions.packing session (length (now (memory .entry))) (now (bytes .entry)) ⌝ }
     ensures { λ _. ⌜ now (memory .exit) ≡ sessions.memoryPacked session (now (memory .entry)) (now (bytes .entry)) ⌝ }
 {

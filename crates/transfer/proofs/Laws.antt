@@ -18,11 +18,10 @@ use Rattle.key.specs.declared.Key.{Key}
 use Rattle.key.specs.declared.Refusal.{Refusal}
 use Rattle.key.specs.declared.Outcome.{Outcome}
 use Rattle.key.specs.declared.Outcome.the-variants.{Done, Refused}
-use Rattle.key.specs.Keys.{keep, withSlot, CameFromCalls}
+use Rattle.key.specs.Keys.{keep, withSlot, Usable}
 use Rattle.key.specs.Admitting.{Blocks, Admitted, transferAnswer}
-use Rattle.key.proofs.Laws.{admitted, transfer-admitted, accepted}
+use Rattle.key.proofs.Laws.{admitted, transfer-admitted}
 use Rattle.layout.specs.Pieces.{total}
-use Rattle.layout.proofs.CountLaws.{sound-total}
 use Rattle.engine.specs.declared.Rule.{Rule}
 use Rattle.engine.specs.Streams.{blockSize, fieldSize, unitSize, inBlock, inUnit, outBlock, outUnit}
 use Rattle.engine.specs.Feeding.{fed, emitted, begun}
@@ -33,7 +32,7 @@ use Rattle.engine.proofs.Settling.{bytes-take}
 use Rattle.engine.proofs.Feeding.{finished-fed}
 use Rattle.engine.proofs.FeedLaws.{begun-in-step, fed-after}
 use Rattle.transfer.specs.declared.Transferred.{Transferred}
-use Rattle.transfer.specs.Rules.{receiveRule, outputOf, errorIn, Ranged}
+use Rattle.transfer.specs.Rules.{receiveRule, outputOf, errorIn}
 use Rattle.transfer.specs.Transferring.{wireStream, answered, answerOf, receiving, memoryReceived}
 
 -- What an accepted transfer of so many data bytes tells of two domains.
@@ -108,14 +107,14 @@ pub record Ready (r : Rule) (count i o : ℕ) : Type 0 where
   pub output : o ≡ count / inBlock r * outUnit r
   pub blocks : count / outBlock r ≡ count / inBlock r
 
-pub ready : (r : Rule) (count : ℕ) → Agree (r .input) (r .output) count → r .input .seed ≤ 65535 → r .output .seed ≤ 65535 → r .«copy_mask» < 256
+pub ready : (r : Rule) (count : ℕ) → Agree (r .input) (r .output) count
     → Ready r count (streamLength (r .input) count) (streamLength (r .output) count)
-ready r count g s t m =
+ready r count g =
     let a = r .input in
     let b = r .output in
     let same = same-size a b count g in
     record {
-      matched = record { same = same; some = bounds a b count g .0; most = bounds a b count g .1; inSeed = s; outSeed = t; masks = m };
+      matched = record { same = same; some = bounds a b count g .0; most = bounds a b count g .1; inSeed = λ e. g .first e .good .seed; outSeed = λ e. g .second e .good .seed };
       input = stream-units a b count g;
       output = stream-units b a count (agree-back g) ∙ rw same;
       blocks = rw same;
@@ -149,32 +148,29 @@ whole r count input output R stream b e =
 pub record Accepted (k : Key) (n x count w : ℕ) : Type 0 where
   pub admitted : Admitted k n x count
   pub wire : streamLength (k .signature .wire) count ≤ w
-  pub small : total (k .layout) ≤ n
   pub agree : Agree (k .signature .memory) (k .signature .wire) count
   pub measured : Measured (k .signature .memory) count × Measured (k .signature .wire) count
 
-pub accept : (k : Key) (n x count w : ℕ) → CameFromCalls k → transferAnswer k n x count w ≡ Done → Accepted k n x count w
+pub accept : (k : Key) (n x count w : ℕ) → Usable k → transferAnswer k n x count w ≡ Done → Accepted k n x count w
 accept k n x count w c e =
     let t = transfer-admitted k n x count w e in
     let a = admitted k n x count c (t .0) in
     record {
       admitted = a;
       wire = t .1;
-      small = rw (a .lent) (sound-total (k .layout) (k .«memory_length») (accepted k c (a .configured) .sound));
       agree = record { first = a .memory; second = a .wire; alike = a .alike };
       measured = (record { sized = λ s. a .memory s .good .least; short = omega (arith, a .short) }, record { sized = λ s. a .wire s .good .least; short = omega (arith, a .short) });
     }
 
 -- ---- receive
 
-module _ (k : Key) (memory wire : List ℕ) (x count : ℕ) (c : CameFromCalls k) (e : answerOf k memory wire x count ≡ Done) (g : Ranged (receiveRule (k .signature)))
-    (b : Bytes wire) where
+module _ (k : Key) (memory wire : List ℕ) (x count : ℕ) (c : Usable k) (e : answerOf k memory wire x count ≡ Done) (b : Bytes wire) where
   receive-accepted : Accepted k (length memory) x count (length wire)
   receive-accepted = accept k (length memory) x count (length wire) c e
 
   receive-whole : Whole (receiveRule (k .signature)) (wireStream k wire count) count (streamLength (k .signature .memory) count)
   receive-whole =
-      whole (receiveRule (k .signature)) count _ _ (ready (receiveRule (k .signature)) count (agree-back (receive-accepted .agree)) (g .inSeed) (g .outSeed) (g .masks))
+      whole (receiveRule (k .signature)) count _ _ (ready (receiveRule (k .signature)) count (agree-back (receive-accepted .agree)))
       (wireStream k wire count) (bytes-take (streamLength (k .signature .wire) count) wire b) (length-take-le (streamLength (k .signature .wire) count) wire (receive-accepted .wire))
 
   -- what feeding the wire's stream asks
@@ -187,7 +183,7 @@ module _ (k : Key) (memory wire : List ℕ) (x count : ℕ) (c : CameFromCalls k
         record {
           placed = a .placed;
           fits = omega (arith, receive-whole .size, a .inside, zero-mul (outUnit (receiveRule (k .signature))));
-          small = omega (arith, receive-accepted .small, a .limit);
+          small = omega (arith, a .bounded .small);
         },
       )
 

@@ -19,7 +19,7 @@ use Rattle.key.specs.declared.Key.{Key}
 use Rattle.key.specs.declared.Refusal.{Refusal}
 use Rattle.key.specs.declared.Outcome.{Outcome}
 use Rattle.key.specs.declared.Outcome.the-variants.{Done, Refused}
-use Rattle.key.specs.Keys.{keep, withSlot, CameFromCalls}
+use Rattle.key.specs.Keys.{keep, withSlot, Usable}
 use Rattle.key.specs.Streams.{streamLength, Sized}
 use Rattle.key.proofs.Laws.{fields-short, data-in-stream}
 use Rattle.key.specs.declared.Slot.{Slot}
@@ -31,7 +31,7 @@ use Rattle.engine.specs.Feeding.{begun, emitted}
 use Rattle.engine.specs.Parts.{InStep, Room, Fed, Going, written}
 use Rattle.engine.proofs.FeedLaws.{going-start, going-turn, going-end, part-room}
 use Rattle.transfer.specs.declared.Transferred.{Transferred}
-use Rattle.transfer.specs.Rules.{sendRule, outputOf, Ranged}
+use Rattle.transfer.specs.Rules.{sendRule, outputOf}
 use Rattle.transfer.specs.Transferring.{memoryStream, answered, answerOf, sending, wireSent}
 use Rattle.transfer.proofs.Laws.{Accepted, accept, Whole, whole, ready}
 use Rattle.transfer.specs.Sending.{onePiece, layoutBytes, Drawable, Drawn}
@@ -132,8 +132,7 @@ stream-double d n s = go (signed d) refl
     go true e = rw e (omega (arith, fields-short n (d .«block_size») (s e)))
     go false e = rw e (omega arith)
 
-module _ (k : Key) (memory wire : List ℕ) (x count : ℕ) (c : CameFromCalls k) (e : answerOf k memory wire x count ≡ Done) (g : Ranged (sendRule (k .signature)))
-    (b : Bytes memory) where
+module _ (k : Key) (memory wire : List ℕ) (x count : ℕ) (c : Usable k) (e : answerOf k memory wire x count ≡ Done) (b : Bytes memory) where
   send-accepted : Accepted k (length memory) x count (length wire)
   send-accepted = accept k (length memory) x count (length wire) c e
 
@@ -144,13 +143,13 @@ module _ (k : Key) (memory wire : List ℕ) (x count : ℕ) (c : CameFromCalls k
 
   send-whole : Whole (sendRule (k .signature)) (memoryStream k memory x count) count (streamLength (k .signature .wire) count)
   send-whole =
-      whole (sendRule (k .signature)) count _ _ (ready (sendRule (k .signature)) count (send-accepted .agree) (g .inSeed) (g .outSeed) (g .masks))
+      whole (sendRule (k .signature)) count _ _ (ready (sendRule (k .signature)) count (send-accepted .agree))
       (memoryStream k memory x count) (bytes-gathered memory _ b) stream-length
 
   pub send-small : streamLength (k .signature .wire) count < 2 ^ 32
   send-small =
       let a = send-accepted .admitted in
-      omega (arith, stream-double (k .signature .wire) count (send-accepted .measured .1 .sized), data-in-stream (k .signature .memory) count, a .inside, send-accepted .small, a .limit)
+      omega (arith, stream-double (k .signature .wire) count (send-accepted .measured .1 .sized), data-in-stream (k .signature .memory) count, a .inside, a .bounded .small)
 
   room : Room (sendRule (k .signature)) (begun (sendRule (k .signature)) Empty) (onePiece (streamLength (k .signature .wire) count)) (length wire) 0
       (length (emitted (sendRule (k .signature)) (begun (sendRule (k .signature)) Empty) (memoryStream k memory x count)))
@@ -167,7 +166,7 @@ module _ (k : Key) (memory wire : List ℕ) (x count : ℕ) (c : CameFromCalls k
   send-asks = record {
     placed = send-accepted .admitted .placed;
     inside = send-accepted .admitted .inside;
-    small = omega (arith, send-accepted .small, send-accepted .admitted .limit);
+    small = omega (arith, send-accepted .admitted .bounded .small);
     inStep = send-whole .inStep;
     some = send-whole .some;
     room = room;

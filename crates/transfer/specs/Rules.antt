@@ -1,6 +1,6 @@
 -- The transfer rule for send and receive: which domain is the input (01, "The transfer rule").
 use mathlib.Core.List.{List}
-use Prim.Native.Nat.{ℕ, _/_, _≤_, _<_}
+use Prim.Native.Nat.{ℕ, _/_}
 use Rattle.field.specs.Output.{copyMask}
 use Rattle.key.specs.declared.Signature.{Signature}
 use Rattle.key.specs.declared.Slot.{Slot}
@@ -33,9 +33,3 @@ outputOf r stream length = outputStream r stream (length / inBlock r) (length / 
 -- its first error, or none
 abbrev pub errorIn : Rule → List ℕ → ℕ → Slot
 errorIn r stream length = firstError r stream (length / inBlock r)
-
--- A rule's numbers are in the range of their types.
-pub record Ranged (r : Rule) : Type 0 where
-  pub inSeed : r .input .seed ≤ 65535
-  pub outSeed : r .output .seed ≤ 65535
-  pub masks : r .«copy_mask» < 256

@@ -1,6 +1,6 @@
 // Receive.
 ghost use mathlib.Core.Path.{_≡_};
-ghost use Rattle.key.specs.Keys.{CameFromCalls};
+ghost use Rattle.key.specs.Keys.{Usable};
 ghost use Rattle.transfer.specs.Transferring as transferring;
 use crate::Transferred;
 use crate::rules;
@@ -17,7 +17,7 @@ pub fn receive(
     offset: LayoutOffset,
     data_length: u64,
 ) -> Transferred
-    requires { ⌜ CameFromCalls key ⌝ }
+    requires { ⌜ Usable key ⌝ }
     ensures { λ r. ⌜ r ≡ transferring.receiving key (now (memory .entry)) (now (wire .entry)) (offset .0) «data_length» ⌝ }
     ensures { λ _. ⌜ now (memory .exit) ≡ transferring.memoryReceived key (now (memory .entry)) (now (wire .entry)) (offset .0) «data_length» ⌝ }
 {
@@ -28,7 +28,6 @@ pub fn receive(
     let signature = key.signature;
     let layout = key.layout;
     let rule = rules::receive_rule(signature);
-    rules::ranged(rule);
     let taken = key::stream_length(signature.wire, data_length);
     let n = taken as usize;
     let p = engine::feed(

@@ -31,8 +31,3 @@ pub fn receive_rule(s: Signature) -> Rule
         copy_mask: field::copy_mask(s.attribute_flags, s.copy_mask, wire, memory),
     }
 }
-
-// What the types say of a rule's numbers.
-pub(crate) fn ranged(rule: Rule)
-    ensures { λ _. ⌜ rules.Ranged rule ⌝ }
-{}

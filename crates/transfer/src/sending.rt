@@ -2,7 +2,7 @@
 ghost use mathlib.Core.Path.{_≡_};
 ghost use Prim.Native.Nat.{_+_, _≤_, _<_, _^_, min};
 ghost use lib.ListN.{length, take, drop};
-ghost use Rattle.key.specs.Keys.{CameFromCalls};
+ghost use Rattle.key.specs.Keys.{Usable};
 ghost use Rattle.transfer.specs.Transferring as transferring;
 ghost use Rattle.transfer.specs.Sending.{onePiece, Drawable, Drawn};
 use crate::Transferred;
@@ -72,7 +72,7 @@ pub fn send(
     offset: LayoutOffset,
     data_length: u64,
 ) -> Transferred
-    requires { ⌜ CameFromCalls key ⌝ }
+    requires { ⌜ Usable key ⌝ }
     ensures { λ r. ⌜ r ≡ transferring.sending key (now (memory .entry)) (now (wire .entry)) (offset .0) «data_length» ⌝ }
     ensures { λ _. ⌜ now (wire .exit) ≡ transferring.wireSent key (now (memory .entry)) (now (wire .entry)) (offset .0) «data_length» ⌝ }
 {
@@ -83,7 +83,6 @@ pub fn send(
     let signature = key.signature;
     let from = key.layout;
     let rule = rules::send_rule(signature);
-    rules::ranged(rule);
     let taken = key::stream_length(signature.memory, data_length);
     let written = key::stream_length(signature.wire, data_length);
     let slot = draw(

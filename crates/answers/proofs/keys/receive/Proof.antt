@@ -1,11 +1,12 @@
 -- A receive leaves the premise.
 use Rattle.answers.proofs.Came.{came-receiving}
+use Rattle.key.proofs.Laws.{usable}
 use borrow.Author.Needs.{needs}
 use Rattle.answers.proofs.keys.receive.Statement.{statement}
 use Rattle.answers.proofs.keys.receive.Tie as tie
 
 receive-requires : tie.Need-receive-requires
-receive-requires c κs = search needs
+receive-requires c κs = usable _ (c .before .before .before .pre)
 
 same-length : tie.Need-same-length
 same-length c = search needs

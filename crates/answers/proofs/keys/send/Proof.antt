@@ -1,11 +1,12 @@
 -- A send leaves the premise.
 use Rattle.answers.proofs.Came.{came-sending}
+use Rattle.key.proofs.Laws.{usable}
 use borrow.Author.Needs.{needs}
 use Rattle.answers.proofs.keys.send.Statement.{statement}
 use Rattle.answers.proofs.keys.send.Tie as tie
 
 send-requires : tie.Need-send-requires
-send-requires c κs = search needs
+send-requires c κs = usable _ (c .before .before .before .pre)
 
 same-length : tie.Need-same-length
 same-length c = search needs

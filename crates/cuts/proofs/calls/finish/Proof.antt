@@ -1,11 +1,12 @@
 -- Finish leaves the premise.
 use Rattle.cuts.proofs.Ended.{came-finishing}
+use Rattle.packets.proofs.PacketLaws.{underway}
 use borrow.Author.Needs.{needs}
 use Rattle.cuts.proofs.calls.finish.Statement.{statement}
 use Rattle.cuts.proofs.calls.finish.Tie as tie
 
 finish-requires : tie.Need-finish-requires
-finish-requires c κs = search needs
+finish-requires c κs = underway _ (c .pre)
 
 slice-aggregate-number : tie.Need-slice-aggregate-number
 slice-aggregate-number c = search needs

@@ -1,11 +1,11 @@
 -- A packet leaves the premise.
-use Rattle.packets.proofs.PacketLaws.{came-packed}
+use Rattle.packets.proofs.PacketLaws.{underway, came-packed}
 use borrow.Author.Needs.{needs}
 use Rattle.cuts.proofs.calls.packet.Statement.{statement}
 use Rattle.cuts.proofs.calls.packet.Tie as tie
 
 packet-requires : tie.Need-packet-requires
-packet-requires c κs = search needs
+packet-requires c κs = underway _ (c .before .before .before .pre)
 
 show-requires : tie.Need-show-requires
 show-requires c κs = search needs

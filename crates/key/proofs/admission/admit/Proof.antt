@@ -2,15 +2,15 @@
 use mathlib.Core.Path.{sym, _∙_}
 use borrow.Author.Tests.{not-false, eq-eqb, ne-eqb}
 use Rattle.key.specs.Admitting.{openAnswer}
-use Rattle.key.proofs.Laws.{Accepts, accepted, sized, bounded}
+use Rattle.key.proofs.Laws.{Held, held, sized}
 use Rattle.key.proofs.admission.admit.Statement.{statement}
 use Rattle.key.proofs.admission.admit.Tie as tie
 
 -- a key past 14 holds what configure accepted
-held : (c : tie.Else1) → Accepts (c .before .before .before .args .key .«memory_length») (record { signature = c .before .before .before .args .key .signature; layout = c .before .before .before .args .key .layout })
-held c =
+configured : (c : tie.Else1) → Held (c .before .before .before .args .key)
+configured c =
     let s = c .before .before .before in
-    accepted (s .args .key) (s .pre) (not-false (s .args .key .configured) (c .if1 .left))
+    held (s .args .key) (s .pre) (not-false (s .args .key .configured) (c .if1 .left))
 
 returns : tie.Need-returns
 unfolding openAnswer
@@ -23,12 +23,12 @@ returns-2 c = rw (c .before .before .if1 .left, ne-eqb _ _ (c .if2 .taken))
 partial-requires : tie.Need-partial-requires
 partial-requires c κs =
     let e = c .before .before .before in
-    sized (e .before .before .before .args .key .signature .memory) (held e .signs .memory)
+    sized (e .before .before .before .args .key .signature .memory) (configured e .signs .memory)
 
 partial-requires-2 : tie.Need-partial-requires-2
 partial-requires-2 c κs =
     let e = c .before .before .before .before in
-    sized (e .before .before .before .args .key .signature .wire) (held e .signs .wire)
+    sized (e .before .before .before .args .key .signature .wire) (configured e .signs .wire)
 
 returns-3 : tie.Need-returns-3
 unfolding openAnswer
@@ -41,7 +41,7 @@ past-requires : tie.Need-past-requires
 past-requires c κs =
     let e = c .before .before .before .before .before .before in
     let k = e .before .before .before .args .key in
-    (bounded (k .layout) (k .«memory_length») (held e .sound) (held e .limit), sized (k .signature .memory) (held e .signs .memory))
+    (configured e .bounded, sized (k .signature .memory) (configured e .signs .memory))
 
 returns-4 : tie.Need-returns-4
 unfolding openAnswer

@@ -1,4 +1,4 @@
-use Rattle.packets.proofs.PacketLaws.{session-short, answer-8, answer-12, answer-0}
+use Rattle.packets.proofs.PacketLaws.{answer-8, answer-12, answer-0}
 use borrow.Author.Needs.{needs}
 use Rattle.packets.proofs.packing.answer.Statement.{statement}
 use Rattle.packets.proofs.packing.answer.Tie as tie
@@ -17,17 +17,17 @@ taken-requires : tie.Need-taken-requires
 taken-requires c κs = search needs
 
 sub-if2 : tie.Need-sub-if2
-sub-if2 c = rw (c .taken .ensures, c .before .wire-length .ensures) (session-short _ (c .before .before .before .before .before .before .before .pre))
+sub-if2 c = rw (c .taken .ensures, c .before .wire-length .ensures) (c .before .before .before .before .before .before .before .pre .fits)
 
 returns-2 : tie.Need-returns-2
 returns-2 c =
     let w = c .before .before in
-    answer-12 _ _ _ (w .before .if1 .left) _ _ (c .before .taken .ensures) (w .wire-length .ensures) (rw (c .before .taken .ensures, w .wire-length .ensures) (session-short _ (w .before .before .before .before .before .before .pre))) (c .if2 .taken)
+    answer-12 _ _ _ (w .before .if1 .left) _ _ (c .before .taken .ensures) (w .wire-length .ensures) (rw (c .before .taken .ensures, w .wire-length .ensures) (w .before .before .before .before .before .before .pre .fits)) (c .if2 .taken)
 
 returns-3 : tie.Need-returns-3
 returns-3 c =
     let w = c .before .before in
-    answer-0 _ _ _ (w .before .if1 .left) _ _ (c .before .taken .ensures) (w .wire-length .ensures) (rw (c .before .taken .ensures, w .wire-length .ensures) (session-short _ (w .before .before .before .before .before .before .pre))) (c .if2 .left)
+    answer-0 _ _ _ (w .before .if1 .left) _ _ (c .before .taken .ensures) (w .wire-length .ensures) (rw (c .before .taken .ensures, w .wire-length .ensures) (w .before .before .before .before .before .before .pre .fits)) (c .if2 .left)
 
 pub answer-spec : {M : Type 1} → statement M
 answer-spec =

@@ -35,7 +35,7 @@ feed-requires c κs =
     let s = t .before .before .before .before .before .before in
     let d = packet-told _ _ _ (sym (t .before .before .answer .ensures) ∙ t .enum-told .given .1) in
     rw (c .before .receive-rule .ensures)
-    (session-in-step _ (s .pre), packet-room _ (s .pre) (s .args .bytes .now) (λ i. t .before .before .before .before .shared-slice-known .given i .fits) (d .1) _ (d .0))
+    (session-in-step _ (s .pre), packet-room _ (s .pre) (s .args .bytes .now) (d .1) _ (d .0))
 
 taken-requires : tie.Need-taken-requires
 taken-requires c κs =
@@ -43,7 +43,7 @@ taken-requires c κs =
     let s = t .before .before .before .before .before .before in
     let d = packet-told _ _ _ (sym (t .before .before .answer .ensures) ∙ t .enum-told .given .1) in
     rw (c .before .before .feed .ensures .progress, c .before .before .before .before .receive-rule .ensures)
-    (packet-taken _ (s .pre) (s .args .bytes .now) (λ i. t .before .before .before .before .shared-slice-known .given i .fits) (d .1))
+    (packet-taken _ (s .pre) (s .args .bytes .now) (d .1))
 
 written-requires : tie.Need-written-requires
 written-requires c κs =
@@ -51,7 +51,7 @@ written-requires c κs =
     let s = t .before .before .before .before .before .before in
     let d = packet-told _ _ _ (sym (t .before .before .answer .ensures) ∙ t .enum-told .given .1) in
     rw (c .before .before .before .feed .ensures .progress, c .before .before .before .before .before .receive-rule .ensures)
-    (packet-written _ (s .pre) (s .args .bytes .now) (λ i. t .before .before .before .before .shared-slice-known .given i .fits) (d .1))
+    (packet-written _ (s .pre) (s .args .bytes .now) (d .1))
 
 same-length-2 : tie.Need-same-length-2
 same-length-2 c = search needs

@@ -1,6 +1,6 @@
 use native.Mathlib.Omega.{arith}
 use mathlib.Core.Path.{_∙_}
-use Rattle.packets.proofs.PacketLaws.{session-short, wire-short}
+use Rattle.packets.proofs.PacketLaws.{wire-short}
 use borrow.Author.Needs.{needs}
 use Rattle.packets.proofs.packing.taken.Statement.{statement}
 use Rattle.packets.proofs.packing.taken.Tie as tie
@@ -15,7 +15,7 @@ receive-rule-requires c κs = search needs
 taken-requires : tie.Need-taken-requires
 taken-requires c κs =
     let s = c .before .before .before in
-    rw (c .receive-rule .ensures) (omega (arith, session-short _ (s .pre), wire-short _ (s .pre)))
+    rw (c .receive-rule .ensures) (omega (arith, s .pre .fits, wire-short _ (s .pre)))
 
 returns : tie.Need-returns
 returns c = c .taken .ensures ∙ rw (c .before .receive-rule .ensures)

@@ -13,7 +13,6 @@ use Rattle.key.proofs.admit_transfer.Reads as admit-transfer-reads
 use Rattle.key.proofs.stream_length.Reads as stream-length-reads
 use Rattle.key.proofs.record.Reads as record-reads
 use Rattle.transfer.proofs.refused.Reads as refused-reads
-use Rattle.transfer.proofs.rules.ranged.Reads as ranged-reads
 use Rattle.transfer.proofs.rules.receive_rule.Reads as receive-rule-reads
 
 admit-transfer-requires : tie.Need-admit-transfer-requires
@@ -37,13 +36,10 @@ returns c = rw (c .refused .ensures) (receive-refused _ _ _ _ _ _ _ (c .before .
 receive-rule-requires : tie.Need-receive-rule-requires
 receive-rule-requires c κs = search needs
 
-ranged-requires : tie.Need-ranged-requires
-ranged-requires c κs = search needs
-
 stream-length-requires : tie.Need-stream-length-requires
 stream-length-requires c κs =
-    let a = c .before .before .before .before .before .before in
-    accept _ _ _ _ _ (a .before .before .before .before .pre) (sym (a .admit-transfer .ensures) ∙ c .before .before .before .before .enum-told .given .1) .measured .1
+    let a = c .before .before .before .before .before in
+    accept _ _ _ _ _ (a .before .before .before .before .pre) (sym (a .admit-transfer .ensures) ∙ c .before .before .before .enum-told .given .1) .measured .1
 
 begin-requires : tie.Need-begin-requires
 begin-requires c κs = search needs
@@ -56,23 +52,23 @@ part-feed-start c = search needs
 
 part-feed-end : tie.Need-part-feed-end
 part-feed-end c =
-    let a = c .before .before .before .before .before .before .before .before .before in
-    let A = accept _ _ _ _ _ (a .before .before .before .before .pre) (sym (a .admit-transfer .ensures) ∙ c .before .before .before .before .before .before .before .enum-told .given .1) in
+    let a = c .before .before .before .before .before .before .before .before in
+    let A = accept _ _ _ _ _ (a .before .before .before .before .pre) (sym (a .admit-transfer .ensures) ∙ c .before .before .before .before .before .before .enum-told .given .1) in
     rw (c .before .before .stream-length .ensures) (A .wire)
 
 feed-requires : tie.Need-feed-requires
 feed-requires c κs =
     let d = c .before .before in
-    let a = d .before .before .before .before .before .before .before .before in
+    let a = d .before .before .before .before .before .before .before in
     let s = a .before .before .before .before in
-    rw (d .begin .ensures, d .before .before .before .receive-rule .ensures, d .before .stream-length .ensures, sub-zero _)
-    (receive-asks _ (s .args .memory .now) (s .args .wire .now) _ _ (s .pre) (sym (a .admit-transfer .ensures) ∙ d .before .before .before .before .before .before .enum-told .given .1)
-    (rw (d .before .before .before .receive-rule .ensures) at (d .before .before .ranged .ensures)) (λ i. a .before .before .shared-slice-known .given i .fits))
+    rw (d .begin .ensures, d .before .before .receive-rule .ensures, d .before .stream-length .ensures, sub-zero _)
+    (receive-asks _ (s .args .memory .now) (s .args .wire .now) _ _ (s .pre) (sym (a .admit-transfer .ensures) ∙ d .before .before .before .before .before .enum-told .given .1)
+    (λ i. a .before .before .shared-slice-known .given i .fits))
 
 stream-length-requires-2 : tie.Need-stream-length-requires-2
 stream-length-requires-2 c κs =
-    let a = c .before .before .before .before .before .before .before .before .before .before .before .before .before in
-    accept _ _ _ _ _ (a .before .before .before .before .pre) (sym (a .admit-transfer .ensures) ∙ c .before .before .before .before .before .before .before .before .before .before .before .enum-told .given .1) .measured .0
+    let a = c .before .before .before .before .before .before .before .before .before .before .before .before in
+    accept _ _ _ _ _ (a .before .before .before .before .pre) (sym (a .admit-transfer .ensures) ∙ c .before .before .before .before .before .before .before .before .before .before .enum-told .given .1) .measured .0
 
 record-requires : tie.Need-record-requires
 record-requires c κs = search needs
@@ -84,12 +80,12 @@ returns-2 : tie.Need-returns-2
 returns-2 c =
     let f = c .before .before .before .before in
     let d = f .before .before .before in
-    let a = d .before .before .before .before .before .before .before .before in
+    let a = d .before .before .before .before .before .before .before in
     let s = a .before .before .before .before in
     rw (c .«record» .ensures, c .before .stream-length2 .ensures, d .before .stream-length .ensures)
-    (receive-gives _ (s .args .memory .now) (s .args .wire .now) _ _ (s .pre) (sym (a .admit-transfer .ensures) ∙ d .before .before .before .before .before .before .enum-told .given .1)
-    (rw (d .before .before .before .receive-rule .ensures) at (d .before .before .ranged .ensures)) (λ i. a .before .before .shared-slice-known .given i .fits) _ _
-    (rw (d .begin .ensures, d .before .before .before .receive-rule .ensures, d .before .stream-length .ensures, sub-zero _) at (f .feed .ensures)))
+    (receive-gives _ (s .args .memory .now) (s .args .wire .now) _ _ (s .pre) (sym (a .admit-transfer .ensures) ∙ d .before .before .before .before .before .enum-told .given .1)
+    (λ i. a .before .before .shared-slice-known .given i .fits) _ _
+    (rw (d .begin .ensures, d .before .before .receive-rule .ensures, d .before .stream-length .ensures, sub-zero _) at (f .feed .ensures)))
 
 pub receive-spec : {M : Type 1} → statement M
 receive-spec =
@@ -102,7 +98,6 @@ receive-spec =
     same-length
     returns
     receive-rule-requires
-    ranged-requires
     stream-length-requires
     begin-requires
     sub-feed

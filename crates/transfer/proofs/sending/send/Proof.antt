@@ -10,7 +10,6 @@ use Rattle.key.proofs.admit_transfer.Reads as admit-transfer-reads
 use Rattle.key.proofs.stream_length.Reads as stream-length-reads
 use Rattle.key.proofs.record.Reads as record-reads
 use Rattle.transfer.proofs.refused.Reads as refused-reads
-use Rattle.transfer.proofs.rules.ranged.Reads as ranged-reads
 use Rattle.transfer.proofs.rules.send_rule.Reads as send-rule-reads
 use Rattle.transfer.proofs.sending.draw.Reads as draw-reads
 use Rattle.transfer.proofs.sending.first_bytes.Reads as first-bytes-reads
@@ -36,40 +35,37 @@ returns c = rw (c .refused .ensures) (send-refused _ _ _ _ _ _ _ (c .before .bef
 send-rule-requires : tie.Need-send-rule-requires
 send-rule-requires c κs = search needs
 
-ranged-requires : tie.Need-ranged-requires
-ranged-requires c κs = search needs
-
 stream-length-requires : tie.Need-stream-length-requires
 stream-length-requires c κs =
-    let t = c .before .before .before .before in
+    let t = c .before .before .before in
     let a = t .before .before in
     accept _ _ _ _ _ (a .before .before .before .before .pre) (sym (a .admit-transfer .ensures) ∙ t .enum-told .given .1) .measured .0
 
 stream-length-requires-2 : tie.Need-stream-length-requires-2
 stream-length-requires-2 c κs =
-    let t = c .before .before .before .before .before in
+    let t = c .before .before .before .before in
     let a = t .before .before in
     accept _ _ _ _ _ (a .before .before .before .before .pre) (sym (a .admit-transfer .ensures) ∙ t .enum-told .given .1) .measured .1
 
 first-bytes-requires : tie.Need-first-bytes-requires
 first-bytes-requires c κs =
-    let f = c .before .before .before in
+    let f = c .before .before in
     let t = f .before .before .before in
     let a = t .before .before in
     let s = a .before .before .before .before in
     rw (c .stream-length2 .ensures)
     (send-small _ (s .args .memory .now) (s .args .wire .now) _ _ (s .pre) (sym (a .admit-transfer .ensures) ∙ t .enum-told .given .1)
-    (rw (f .send-rule .ensures) at (c .before .before .ranged .ensures)) (λ i. a .before .before .before .shared-slice-known .given i .fits))
+    (λ i. a .before .before .before .shared-slice-known .given i .fits))
 
 draw-requires : tie.Need-draw-requires
 draw-requires c κs =
-    let f = c .before .before .before .before .before in
+    let f = c .before .before .before .before in
     let t = f .before .before .before in
     let a = t .before .before in
     let s = a .before .before .before .before in
     rw (c .before .first-bytes .ensures, c .before .before .stream-length2 .ensures, c .before .before .before .stream-length .ensures, f .send-rule .ensures)
     (send-asks _ (s .args .memory .now) (s .args .wire .now) _ _ (s .pre) (sym (a .admit-transfer .ensures) ∙ t .enum-told .given .1)
-    (rw (f .send-rule .ensures) at (c .before .before .before .before .ranged .ensures)) (λ i. a .before .before .before .shared-slice-known .given i .fits))
+    (λ i. a .before .before .before .shared-slice-known .given i .fits))
 
 record-requires : tie.Need-record-requires
 record-requires c κs = search needs
@@ -80,13 +76,13 @@ same-length-2 c = search needs
 returns-2 : tie.Need-returns-2
 returns-2 c =
     let l = c .before .before .before .before .before in
-    let f = l .before .before .before .before in
+    let f = l .before .before .before in
     let t = f .before .before .before in
     let a = t .before .before in
     let s = a .before .before .before .before in
     rw (c .«record» .ensures, l .before .stream-length2 .ensures, l .before .before .stream-length .ensures)
     (send-gives _ (s .args .memory .now) (s .args .wire .now) _ _ (s .pre) (sym (a .admit-transfer .ensures) ∙ t .enum-told .given .1)
-    (rw (f .send-rule .ensures) at (l .before .before .before .ranged .ensures)) (λ i. a .before .before .before .shared-slice-known .given i .fits) _ _
+    (λ i. a .before .before .before .shared-slice-known .given i .fits) _ _
     (rw (l .first-bytes .ensures, l .before .stream-length2 .ensures, l .before .before .stream-length .ensures, f .send-rule .ensures) at (c .before .before .before .draw .ensures)))
 
 pub send-spec : {M : Type 1} → statement M
@@ -100,7 +96,6 @@ send-spec =
     same-length
     returns
     send-rule-requires
-    ranged-requires
     stream-length-requires
     stream-length-requires-2
     first-bytes-requires

@@ -14,7 +14,7 @@ use Rattle.packets.specs.declared.Packed.{Packed}
 use Rattle.packets.specs.declared.Finished.{Finished}
 use Rattle.key.specs.declared.Key.{Key}
 use Rattle.wirecheck.specs.Checking.{Along, received}
-use Rattle.wirecheck.proofs.Laws.{came, opened-along, along-session, along-next, along-end, along-memory}
+use Rattle.wirecheck.proofs.Laws.{key-usable, opened-along, along-session, along-next, along-end, along-memory}
 use Rattle.wirecheck.proofs.receiving.receive_in_packets.Statement.{statement}
 use Rattle.wirecheck.proofs.receiving.receive_in_packets.Tie as tie
 use Rattle.wirecheck.proofs.receiving.receive_in_packets.Reads as reads
@@ -35,7 +35,7 @@ new-requires : tie.Need-new-requires Inv-loop μ-loop
 new-requires c κs = search needs
 
 open-requires : tie.Need-open-requires Inv-loop μ-loop
-open-requires c κs = came _ _ _ (c .before .before .before .before .pre)
+open-requires c κs = key-usable _ _ _ (c .before .before .before .before .pre)
 
 loop-holds : tie.Need-loop-holds Inv-loop μ-loop
 loop-holds c =
