@@ -1,6 +1,6 @@
 -- Case M: the list is made, and its numbers are 01's. Assumes nothing.
 use mathlib.Core.Path.{_≡_, refl}
-use mathlib.Core.Bool.{Bool, true, false}
+use mathlib.Core.Bool.{Bool, true, false, _&&_}
 use mathlib.Core.List.{List, [], _∷_}
 use Prim.Native.Nat.{ℕ, zero, suc}
 use native.Mathlib.Omega.{arith}
@@ -8,7 +8,6 @@ use lib.Dec.{ltb}
 use borrow.Author.Tests.{ltb-true}
 use Rattle.guard.specs.Crc.{timesX, crcByte}
 use Rattle.guard.specs.Guards.{Bytes, stepped, finished}
-use Rattle.field.specs.Tests.{and}
 use Rattle.field.specs.Domains.{referenceTag}
 use Rattle.field.specs.Fields.{bytesOf, fieldOf, given}
 use Rattle.field.specs.Judging.{escaped, checked, differs, maskOf, differing, firstBad, judged}
@@ -39,9 +38,9 @@ case-M = refl
 
 small : List ℕ → Bool
 small [] = true
-small (x ∷ xs) = and (ltb x 256) (small xs)
+small (x ∷ xs) = ltb x 256 && small xs
 
-both : (a b : Bool) → and a b ≡ true → (a ≡ true) × (b ≡ true)
+both : (a b : Bool) → a && b ≡ true → (a ≡ true) × (b ≡ true)
 both true true e = (refl, refl)
 both true false e = let z : _≡_ {A = ℕ} 0 1 = cc in absurd (omega arith)
 both false b e = let z : _≡_ {A = ℕ} 0 1 = cc in absurd (omega arith)

@@ -1,6 +1,6 @@
 -- Copied bytes come out as they went in. Assumes nothing.
 use mathlib.Core.Path.{_≡_, refl, sym, ap, _∙_}
-use mathlib.Core.Bool.{Bool, true, false}
+use mathlib.Core.Bool.{Bool·beq, Bool, true, false, _&&_, cond}
 use mathlib.Core.List.{List, [], _∷_, _++_}
 use Prim.Native.Nat.{ℕ, zero, suc, _+_, _*_, _/_, _%_, _≤_, _<_}
 use native.Mathlib.Nat.{zero-add}
@@ -12,7 +12,7 @@ use lib.Seq.{getD-take, getD-drop, getD-append-add}
 use Rattle.guard.specs.Guards.{Bytes}
 use Rattle.field.specs.declared.ProtectionField.{ProtectionField}
 use Rattle.field.specs.declared.Domain.{Domain}
-use Rattle.field.specs.Tests.{and, same, pick, bit}
+use Rattle.field.specs.Tests.{bit}
 use Rattle.field.specs.Domains.{signed, remaps}
 use Rattle.field.specs.Fields.{bytesOf, bytesIn, fieldOf}
 use Rattle.field.specs.Output.{agreed, copyMask, merged, outputField}
@@ -37,7 +37,7 @@ use Rattle.audit.proofs.Destination.{output-units, block-size, unit-siz
 
 -- ---- bytes of a field
 
-either-small : (c : Bool) (x y : ℕ) → x < 256 → y < 256 → pick c x y < 256
+either-small : (c : Bool) (x y : ℕ) → x < 256 → y < 256 → cond c x y < 256
 either-small true x y h l = h
 either-small false x y h l = l
 
@@ -153,9 +153,9 @@ module _ (k : Key) (memory wire : List ℕ) (x count : ℕ) where
 
 -- ---- the guard
 
-pick-small : (b : Bool) (n : ℕ) → pick b n 0 ≤ n
-pick-small true n = omega arith
-pick-small false n = omega arith
+cond-small : (b : Bool) (n : ℕ) → cond b n 0 ≤ n
+cond-small true n = omega arith
+cond-small false n = omega arith
 
 -- with one guard type and seed, the copy mask in force has both guard bits
 guard-bits : (attributes mask : ℕ) (a b : Domain) → attributes ≡ 0 → signed a ≡ true → signed b ≡ true → a .«guard_type» ≡ b .«guard_type» → a .seed ≡ b .seed
@@ -163,9 +163,9 @@ guard-bits : (attributes mask : ℕ) (a b : Domain) → attributes ≡ 0 → sig
 unfolding copyMask agreed
 guard-bits attributes mask a b f s t g e i h =
     let tag = eqb (a .«application_tag») (b .«application_tag») in
-    let reference = and (eqb (a .«reference_tag») (b .«reference_tag»)) (same (remaps a) (remaps b)) in
-    let m : copyMask attributes mask a b ≡ 0xC0 + pick tag 0x30 0 + pick reference 0x0F 0 = rw (f, s, t, eq-eqb (a .«guard_type») (b .«guard_type») g, eq-eqb (a .seed) (b .seed) e) in
-    bits (copyMask attributes mask a b) i h (omega (arith, m)) (omega (arith, m, pick-small tag 0x30, pick-small reference 0x0F))
+    let reference = eqb (a .«reference_tag») (b .«reference_tag») && Bool·beq (remaps a) (remaps b) in
+    let m : copyMask attributes mask a b ≡ 0xC0 + cond tag 0x30 0 + cond reference 0x0F 0 = rw (f, s, t, eq-eqb (a .«guard_type») (b .«guard_type») g, eq-eqb (a .seed) (b .seed) e) in
+    bits (copyMask attributes mask a b) i h (omega (arith, m)) (omega (arith, m, cond-small tag 0x30, cond-small reference 0x0F))
   where
     bits : (m i : ℕ) → i < 2 → 192 ≤ m → m < 256 → getD (bytesIn m) i false ≡ true
     bits m zero h l n = eq-eqb (m / 128 % 2) 1 (omega arith)

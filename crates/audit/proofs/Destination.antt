@@ -18,7 +18,7 @@ use Rattle.key.specs.declared.Key.{Key}
 use Rattle.key.specs.declared.Outcome.the-variants.{Done, Refused}
 use Rattle.key.specs.Keys.{CameFromCalls}
 use Rattle.key.specs.Streams.{streamLength}
-use Rattle.key.proofs.Laws.{usable, configure-done}
+use Rattle.key.proofs.Laws.{came-usable, configure-done}
 use Rattle.engine.specs.declared.Rule.{Rule}
 use Rattle.engine.specs.Streams.{fieldSize, inBlock, inUnit, outBlock, outUnit, inputBlock}
 use Rattle.engine.specs.Transfers.{joined, fieldBehind, outputStream}
@@ -80,7 +80,7 @@ module _ (k : Key) (memory wire : List ℕ) (x count : ℕ) where
 
   module _ (c : CameFromCalls k) (e : answerOf k memory wire x count ≡ Done) where
     pub told : Accepted k (length memory) x count (length wire)
-    told = accept k (length memory) x count (length wire) (usable k c) e
+    told = accept k (length memory) x count (length wire) (came-usable k c) e
 
     pub memory-length : length (memoryStream k memory x count) ≡ streamLength (k .signature .memory) count
     memory-length =

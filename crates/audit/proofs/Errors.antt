@@ -1,6 +1,6 @@
 -- Demand 2, errors: the rule's first error is that of the first bad block and of its first bad part. Assumes nothing.
 use mathlib.Core.Path.{_≡_, refl, sym, ap, _∙_}
-use mathlib.Core.Bool.{Bool, true, false}
+use mathlib.Core.Bool.{Bool, true, false, _&&_, _||_, not, cond}
 use mathlib.Core.List.{List, [], _∷_}
 use Prim.Native.Nat.{ℕ, zero, suc, _+_, _*_, _/_, _%_, _≤_, _<_}
 use native.Mathlib.Omega.{arith}
@@ -12,7 +12,7 @@ use Rattle.field.specs.declared.Judgement.{Judgement}
 use Rattle.field.specs.declared.Judgement.the-variants.{Good, Bad}
 use Rattle.field.specs.declared.Part.{Part}
 use Rattle.field.specs.declared.Part.the-variants.{Guard, Application, Reference}
-use Rattle.field.specs.Tests.{and, or, not, pick, bit}
+use Rattle.field.specs.Tests.{bit}
 use Rattle.field.specs.Domains.{signed}
 use Rattle.field.specs.Fields.{bytesOf, bytesIn}
 use Rattle.field.specs.Judging.{escaped, checked, differs, digit, maskOf, differing, mismatch, firstBad, judged}
@@ -35,7 +35,7 @@ digit-small true = omega arith
 digit-small false = omega arith
 
 -- whether a number is above n, whose first two digits are a and b, and whose other digits stay within n
-above : (n : ℕ) (a b : Bool) (rest : ℕ) → rest ≤ n → ltb n (digit a * (2 * (n + 1)) + digit b * (n + 1) + rest) ≡ or a b
+above : (n : ℕ) (a b : Bool) (rest : ℕ) → rest ≤ n → ltb n (digit a * (2 * (n + 1)) + digit b * (n + 1) + rest) ≡ a || b
 above n true b rest h = lt-ltb n (digit true * (2 * (n + 1)) + digit b * (n + 1) + rest) (omega arith)
 above n false true rest h = lt-ltb n (digit false * (2 * (n + 1)) + digit true * (n + 1) + rest) (omega arith)
 above n false false rest h = le-ltb n (digit false * (2 * (n + 1)) + digit false * (n + 1) + rest) (omega arith)
@@ -63,10 +63,10 @@ module _ (a b c d e f g h : Bool) where
   unfolding set middle low
   set-is = omega arith
 
-  guard-set : ltb 63 set ≡ or a b
+  guard-set : ltb 63 set ≡ a || b
   guard-set = rw set-is (above 63 a b middle middle-small)
 
-  application-set : ltb 15 (set % 64) ≡ or c d
+  application-set : ltb 15 (set % 64) ≡ c || d
   unfolding middle
   application-set =
       let m : set % 64 ≡ middle = omega (arith, set-is, middle-small) in
@@ -76,11 +76,11 @@ module _ (a b c d e f g h : Bool) where
   unfolding middle
   low-left = omega (arith, set-is, low-small)
 
-  reference-set : ltb 0 (set % 16) ≡ or (or e f) (or g h)
+  reference-set : ltb 0 (set % 16) ≡ (e || f) || (g || h)
   unfolding low
   reference-set = rw low-left (go e f g h)
     where
-      go : (e f g h : Bool) → ltb 0 (digit e * 8 + digit f * 4 + (digit g * 2 + digit h)) ≡ or (or e f) (or g h)
+      go : (e f g h : Bool) → ltb 0 (digit e * 8 + digit f * 4 + (digit g * 2 + digit h)) ≡ (e || f) || (g || h)
       go true f g h = lt-ltb 0 (digit true * 8 + digit f * 4 + (digit g * 2 + digit h)) (omega arith)
       go false true g h = lt-ltb 0 (digit false * 8 + digit true * 4 + (digit g * 2 + digit h)) (omega arith)
       go false false true h = lt-ltb 0 (digit false * 8 + digit false * 4 + (digit true * 2 + digit h)) (omega arith)
@@ -113,9 +113,9 @@ module _ (bad : ℕ → Bool) where
   module _ (rule seen : ProtectionField) where
     by-bytes : (a b c d e f g h : Bool) → bad 0 ≡ a → bad 1 ≡ b → bad 2 ≡ c → bad 3 ≡ d → bad 4 ≡ e → bad 5 ≡ f → bad 6 ≡ g → bad 7 ≡ h
         → Told bad rule seen
-        (pick (or a b) (Bad (mismatch Guard rule seen))
-        (pick (or c d) (Bad (mismatch Application rule seen))
-        (pick (or (or e f) (or g h)) (Bad (mismatch Reference rule seen)) Good)))
+        (cond (a || b) (Bad (mismatch Guard rule seen))
+        (cond (c || d) (Bad (mismatch Application rule seen))
+        (cond ((e || f) || (g || h)) (Bad (mismatch Reference rule seen)) Good)))
     by-bytes true b c d e f g h i j k l m n o p = part-bad Guard 0 (omega arith) (omega arith) i none-bad
     by-bytes false true c d e f g h i j k l m n o p = part-bad Guard 1 (omega arith) (omega arith) j none-bad
     by-bytes false false true d e f g h i j k l m n o p = part-bad Application 2 (omega arith) (omega arith) k (two i j)
@@ -155,9 +155,9 @@ kept-1 : (m : ℕ) → m % 64 / 1 % 2 ≡ m / 1 % 2
 kept-1 m = omega arith
 
 -- the checked bytes as a mask: bits 7 and 6 fall out of an escaped block's
-checked-bytes : (e : Bool) (m : ℕ) → bytesIn (pick e (m % 64) m)
-    ≡ and (not (and e true)) (bit m 128) ∷ and (not (and e true)) (bit m 64) ∷ and (not (and e false)) (bit m 32) ∷ and (not (and e false)) (bit m 16)
-    ∷ and (not (and e false)) (bit m 8) ∷ and (not (and e false)) (bit m 4) ∷ and (not (and e false)) (bit m 2) ∷ and (not (and e false)) (bit m 1) ∷ []
+checked-bytes : (e : Bool) (m : ℕ) → bytesIn (cond e (m % 64) m)
+    ≡ (not (e && true) && bit m 128) ∷ (not (e && true) && bit m 64) ∷ (not (e && false) && bit m 32) ∷ (not (e && false) && bit m 16)
+    ∷ (not (e && false) && bit m 8) ∷ (not (e && false) && bit m 4) ∷ (not (e && false) && bit m 2) ∷ (not (e && false) && bit m 1) ∷ []
 checked-bytes false m = refl
 checked-bytes true m =
     let a : m % 64 / 128 % 2 ≡ 0 = omega arith in
@@ -168,12 +168,12 @@ apart : _≡_ {A = Bool} false true → ⊥
 apart h = let z : _≡_ {A = ℕ} 0 1 = cc in omega arith
 
 -- the test of a byte
-not-bad : (e m t : Bool) (x y : ℕ) → and (and (not (and e t)) m) (not (eqb x y)) ≡ false → m ≡ true → (e ≡ true → t ≡ true → ⊥) → x ≡ y
+not-bad : (e m t : Bool) (x y : ℕ) → (not (e && t) && m) && not (eqb x y) ≡ false → m ≡ true → (e ≡ true → t ≡ true → ⊥) → x ≡ y
 not-bad true m true x y h p q = absurd (q refl refl)
 not-bad true m false x y h p q = eqb-true x y (not-false (eqb x y) (rw p at h))
 not-bad false m t x y h p q = eqb-true x y (not-false (eqb x y) (rw p at h))
 
-bad-is : (e m t : Bool) (x y : ℕ) → and (and (not (and e t)) m) (not (eqb x y)) ≡ true → (m ≡ true) × (e ≡ true → t ≡ true → ⊥) × (x ≡ y → ⊥)
+bad-is : (e m t : Bool) (x y : ℕ) → (not (e && t) && m) && not (eqb x y) ≡ true → (m ≡ true) × (e ≡ true → t ≡ true → ⊥) × (x ≡ y → ⊥)
 bad-is true true false x y h = (refl, (λ p q. apart q), eqb-false x y (not-true (eqb x y) h))
 bad-is false true t x y h = (refl, (λ p q. apart p), eqb-false x y (not-true (eqb x y) h))
 bad-is true m true x y h = absurd (apart h)
@@ -184,8 +184,8 @@ module _ (r : Rule) (stream : List ℕ) (i : ℕ) where
   -- byte k is checked, and wrong
   badByte : ℕ → Bool
   badByte k =
-      and (and (not (and (escaped (r .input) (found r stream i)) (ltb k 2))) (getD (bytesIn (r .«check_mask»)) k false))
-      (not (eqb (getD (bytesOf (found r stream i)) k 0) (getD (bytesOf (right r stream i)) k 0)))
+      (not (escaped (r .input) (found r stream i) && ltb k 2) && getD (bytesIn (r .«check_mask»)) k false) &&
+      not (eqb (getD (bytesOf (found r stream i)) k 0) (getD (bytesOf (right r stream i)) k 0))
 
   judged-bytes : differs (bytesIn (checked (r .input) (r .«check_mask») (found r stream i))) (bytesOf (found r stream i)) (bytesOf (right r stream i))
       ≡ badByte 0 ∷ badByte 1 ∷ badByte 2 ∷ badByte 3 ∷ badByte 4 ∷ badByte 5 ∷ badByte 6 ∷ badByte 7 ∷ []
@@ -229,7 +229,7 @@ module _ (r : Rule) (stream : List ℕ) (i : ℕ) where
       judgement-says s (part-bad p k from to h before) =
           part-says s p (record { byte = k; from = from; to = to; bad = bad-byte k h; before = λ j l. good-byte j (before j l) })
 
-      go : (t : Bool) → signed (r .input) ≡ t → Says (pick t (slotOf (i * inUnit r) (judged (r .input) (r .«check_mask») i (guardBy (r .input) (inputBlock r stream i)) (found r stream i))) Empty)
+      go : (t : Bool) → signed (r .input) ≡ t → Says (cond t (slotOf (i * inUnit r) (judged (r .input) (r .«check_mask») i (guardBy (r .input) (inputBlock r stream i)) (found r stream i))) Empty)
       go true s = judgement-says s judgement-told
       go false s = λ t. absurd (apart (sym s ∙ t))
 

@@ -12,7 +12,8 @@ use Rattle.key.specs.declared.Configuration.{Configuration}
 use Rattle.key.specs.declared.Key.{Key}
 use Rattle.key.specs.declared.Checked.{Checked}
 use Rattle.key.specs.Numbers.{number}
-use Rattle.key.specs.Keys.{noDomain, freshKey, configuring, checking}
+use Rattle.field.specs.Domains.{noDomain}
+use Rattle.key.specs.Keys.{freshKey, configuring, checking}
 use Rattle.transfer.specs.declared.Transferred.{Transferred}
 use Rattle.transfer.specs.Transferring.{sending, wireSent, receiving, memoryReceived}
 

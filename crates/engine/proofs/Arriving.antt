@@ -1,6 +1,6 @@
 -- Where the engine stands before the first byte and after one more has arrived. Assumes nothing.
 use mathlib.Core.Path.{_≡_, refl, sym, ap, _∙_}
-use mathlib.Core.Bool.{Bool, true, false}
+use mathlib.Core.Bool.{Bool, true, false, cond}
 use mathlib.Core.List.{List, [], _∷_, _++_, append-assoc, append-nil}
 use Prim.Native.Nat.{ℕ, _+_, _-_, _≤_, _<_}
 use native.Mathlib.Nat.{zero-mul}
@@ -14,7 +14,6 @@ use Rattle.guard.specs.declared.Running.{Running}
 use Rattle.guard.specs.Guards.{started, stepped, advanced}
 use Rattle.guard.proofs.Laws.{advanced-append}
 use Rattle.field.specs.declared.Domain.{Domain}
-use Rattle.field.specs.Tests.{pick}
 use Rattle.field.specs.Domains.{signed}
 use Rattle.field.specs.Fields.{fieldOf}
 use Rattle.key.specs.declared.Slot.{Slot}
@@ -26,16 +25,16 @@ use Rattle.engine.specs.Transfers.{joined, firstError}
 use Rattle.engine.specs.Feeding.{checksGuard, makesGuard, sideAfter, arrived, shown, begun}
 use Rattle.engine.specs.Standing.{running, unitOut, Reached}
 
-pick-same : {A : Type 0} (b : Bool) (a : A) → pick b a a ≡ a
-pick-same true a = refl
-pick-same false a = refl
+cond-same : {A : Type 0} (b : Bool) (a : A) → cond b a a ≡ a
+cond-same true a = refl
+cond-same false a = refl
 
 pub running-none : (d : Domain) (works : Bool) → _≡_ {A = Running} (started (d .seed)) (running d works [])
 unfolding advanced
-running-none d works = sym (pick-same works (started (d .seed)))
+running-none d works = sym (cond-same works (started (d .seed)))
 
 running-more : (d : Domain) (works : Bool) (xs : List ℕ) (b : ℕ)
-    → pick works (stepped (d .«guard_type») (running d works xs) b) (running d works xs) ≡ running d works (xs ++ (b ∷ []))
+    → cond works (stepped (d .«guard_type») (running d works xs) b) (running d works xs) ≡ running d works (xs ++ (b ∷ []))
 unfolding advanced
 running-more d true xs b = sym (advanced-append (d .«guard_type») (started (d .seed)) xs (b ∷ []))
 running-more d false xs b = refl
@@ -44,7 +43,7 @@ pub field-small : (d : Domain) → fieldSize d ≤ 8
 unfolding fieldSize
 field-small d = small (signed d)
   where
-    small : (b : Bool) → pick b 8 0 ≤ 8
+    small : (b : Bool) → cond b 8 0 ≤ 8
     small true = omega arith
     small false = omega arith
 
@@ -150,7 +149,7 @@ module _ (r : Rule) (slot : Slot) where
         outGuard = rw front (R .outGuard);
         eight = length-set (p .held) (p .input .at - inBlock r) b ∙ R .eight;
         held = rw back held′;
-        bare = λ e. absurd (omega (arith, ap {B = ℕ} (λ (s : Bool). pick s 8 0) e));
+        bare = λ e. absurd (omega (arith, ap {B = ℕ} (λ (s : Bool). cond s 8 0) e));
         error = R .error;
         shown = rw (front, append-nil out) (R .shown);
       }

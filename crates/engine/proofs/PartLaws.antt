@@ -1,6 +1,6 @@
 -- A part at once is its bytes one by one. Assumes nothing.
 use mathlib.Core.Path.{_≡_, refl, sym, ap, _∙_}
-use mathlib.Core.Bool.{Bool, true, false}
+use mathlib.Core.Bool.{Bool, true, false, cond}
 use mathlib.Core.List.{List, [], _∷_, _++_, append-assoc, append-nil}
 use Prim.Native.Nat.{ℕ, suc, _+_, _-_, _*_, _^_, _≤_, _<_}
 use native.Mathlib.Nat.{suc-mul, mul-le-mul, mul-le-mul-left}
@@ -13,7 +13,6 @@ use borrow.Author.Tests.{lt-ltb, le-ltb, eq-eqb, ne-eqb, eqb-true, eqb-false}
 use Rattle.guard.specs.declared.Running.{Running}
 use Rattle.guard.specs.Guards.{stepped, advanced}
 use Rattle.field.specs.declared.Domain.{Domain}
-use Rattle.field.specs.Tests.{pick}
 use Rattle.field.specs.Domains.{signed}
 use Rattle.field.specs.Fields.{bytesOf}
 use Rattle.layout.specs.Moves.{scattered}
@@ -29,7 +28,7 @@ use Rattle.engine.specs.Parts.{sideTaken, dataTaken, fieldTaken, taken, 
 use Rattle.engine.proofs.Arriving.{field-small}
 
 guard-more : (t : ℕ) (works : Bool) (g : Running) (b : ℕ) (xs : List ℕ)
-    → pick works (advanced t (pick works (stepped t g b) g) xs) (pick works (stepped t g b) g) ≡ pick works (advanced t g (b ∷ xs)) g
+    → cond works (advanced t (cond works (stepped t g b) g) xs) (cond works (stepped t g b) g) ≡ cond works (advanced t g (b ∷ xs)) g
 unfolding advanced
 guard-more t true g b xs = refl
 guard-more t false g b xs = refl
@@ -128,7 +127,7 @@ length-due : (r : Rule) (p : Progress) → length (fieldDue r p) ≡ fieldSize (
 unfolding fieldSize
 length-due r p = go (signed (r .output))
   where
-    go : (t : Bool) → length (pick t (fieldMade r p) []) ≡ pick t 8 0
+    go : (t : Bool) → length (cond t (fieldMade r p) []) ≡ cond t 8 0
     go true = length-made r p
     go false = refl
 

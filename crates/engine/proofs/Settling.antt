@@ -1,6 +1,6 @@
 -- Where the engine stands after a unit is whole: its error and its output field are those of the transfer rule. Assumes nothing.
 use mathlib.Core.Path.{_≡_, refl, sym, ap, _∙_}
-use mathlib.Core.Bool.{Bool, true, false}
+use mathlib.Core.Bool.{Bool, true, false, cond}
 use mathlib.Core.List.{List, [], _∷_, _++_, append-assoc, append-nil}
 use Prim.Native.Nat.{ℕ, zero, suc, _+_, _-_, _*_, _/_, _%_, _≤_, _<_}
 use native.Mathlib.Nat.{suc-mul}
@@ -14,7 +14,6 @@ use Rattle.guard.specs.Guards.{Bytes, finished}
 use Rattle.guard.proofs.Laws.{whole-block}
 use Rattle.field.specs.declared.Domain.{Domain}
 use Rattle.field.specs.declared.ProtectionField.{ProtectionField}
-use Rattle.field.specs.Tests.{and, pick}
 use Rattle.field.specs.Domains.{signed}
 use Rattle.field.specs.Fields.{bytesOf, fieldOf, given}
 use Rattle.field.specs.Judging.{judged}
@@ -91,7 +90,7 @@ module _ (r : Rule) (m : Matched r) where
     held-now : signed (r .input) ≡ true → p .held ≡ drop (inBlock r) (R .left)
     unfolding fieldSize
     held-now s =
-        let eight : length (drop (inBlock r) (R .left)) ≡ 8 = field-length ∙ ap {B = ℕ} (λ (t : Bool). pick t 8 0) s in
+        let eight : length (drop (inBlock r) (R .left)) ≡ 8 = field-length ∙ ap {B = ℕ} (λ (t : Bool). cond t 8 0) s in
         sym (take-all 8 (p .held) (omega (arith, R .eight))) ∙ rw eight at (R .held)
 
     no-field : signed (r .input) ≡ false → inputField r (R .past ++ R .left) (p .input .index) ≡ []

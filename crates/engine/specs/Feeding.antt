@@ -1,18 +1,15 @@
 -- What the engine does, one byte of the input stream after the other. `proofs/` shows that it is the transfer rule.
-use mathlib.Core.Bool.{Bool, true, false}
+use mathlib.Core.Bool.{Bool, _&&_, not, cond}
 use mathlib.Core.List.{List, [], _∷_, _++_}
-use Prim.Native.Nat.{ℕ, zero, suc, _+_, _-_, _*_, _/_, _%_}
+use Prim.Native.Nat.{ℕ, _+_, _-_, _/_, _%_}
 use lib.Dec.{eqb, ltb}
 use lib.ListN.{set}
-use Rattle.guard.specs.declared.Running.{Running}
 use Rattle.guard.specs.Guards.{started, stepped, finished}
 use Rattle.field.specs.declared.Domain.{Domain}
-use Rattle.field.specs.Tests.{and, not, pick}
 use Rattle.field.specs.Domains.{signed}
 use Rattle.field.specs.Fields.{bytesOf, fieldOf, given}
 use Rattle.field.specs.Output.{outputField}
 use Rattle.key.specs.declared.Slot.{Slot}
-use Rattle.key.specs.declared.Slot.the-variants.{Empty}
 use Rattle.key.specs.Keys.{keep}
 use Rattle.engine.specs.declared.Rule.{Rule}
 use Rattle.engine.specs.declared.Side.{Side}
@@ -22,11 +19,11 @@ use Rattle.engine.specs.Transfers.{errorBy}
 
 -- the input guard is worked out where a guard byte is checked
 unfoldable pub checksGuard : Rule → Bool
-checksGuard r = and (signed (r .input)) (ltb 63 (r .«check_mask»))
+checksGuard r = signed (r .input) && ltb 63 (r .«check_mask»)
 
 -- the output guard is worked out where a guard byte is generated
 unfoldable pub makesGuard : Rule → Bool
-makesGuard r = and (signed (r .output)) (not (eqb (r .«copy_mask» / 64 % 4) 3))
+makesGuard r = signed (r .output) && not (eqb (r .«copy_mask» / 64 % 4) 3)
 
 -- the start of block i of a domain's stream
 abbrev pub sideAt : Domain → ℕ → Side
@@ -34,12 +31,12 @@ sideAt d i = record { index = i; at = 0; guard = started (d .seed) }
 
 -- a side after one data byte
 abbrev pub sideAfter : Domain → Bool → Side → ℕ → Side
-sideAfter d works s b = record { index = s .index; at = s .at + 1; guard = pick works (stepped (d .«guard_type») (s .guard) b) (s .guard) }
+sideAfter d works s b = record { index = s .index; at = s .at + 1; guard = cond works (stepped (d .«guard_type») (s .guard) b) (s .guard) }
 
 -- A byte arrives: as data, for both sides, or as a byte of the input field, which is held.
 unfoldable pub arrived : Rule → Progress → ℕ → Progress
 arrived r p b =
-    pick (ltb (p .input .at) (inBlock r))
+    cond (ltb (p .input .at) (inBlock r))
     (record {
       input = sideAfter (r .input) (checksGuard r) (p .input) b;
       output = sideAfter (r .output) (makesGuard r) (p .output) b;
@@ -62,7 +59,7 @@ fieldMade r p =
     bytesOf (outputField (r .«copy_mask») (fieldOf (p .held)) (given (r .output) (p .output .index) (finished (r .output .«guard_type») (p .output .guard))))
 
 abbrev pub fieldDue : Rule → Progress → List ℕ
-fieldDue r p = pick (signed (r .output)) (fieldMade r p) []
+fieldDue r p = cond (signed (r .output)) (fieldMade r p) []
 
 -- the error of the unit under way
 unfoldable pub errorDue : Rule → Progress → Slot
@@ -79,15 +76,15 @@ nextUnit r p = record {
 
 -- where the input unit is whole, the next begins
 unfoldable pub settled : Rule → Progress → Progress
-settled r p = pick (whole r p) (nextUnit r p) p
+settled r p = cond (whole r p) (nextUnit r p) p
 
 -- what is placed where the input unit is whole
 abbrev pub placed : Rule → Progress → List ℕ
-placed r p = pick (whole r p) (fieldDue r p) []
+placed r p = cond (whole r p) (fieldDue r p) []
 
 -- what is placed as a byte arrives
 abbrev pub shown : Rule → Progress → ℕ → List ℕ
-shown r p b = pick (ltb (p .input .at) (inBlock r)) (b ∷ []) []
+shown r p b = cond (ltb (p .input .at) (inBlock r)) (b ∷ []) []
 
 -- the progress after these bytes
 unfoldable pub fed : Rule → Progress → List ℕ → Progress

@@ -1,13 +1,13 @@
 -- What the engine's code does with a part of the input stream that ends within its block or within its field.
 use mathlib.Core.Path.{_≡_}
-use mathlib.Core.Bool.{Bool, true, false}
-use mathlib.Core.List.{List, [], _∷_}
+use mathlib.Core.Bool.{Bool, false, _&&_, cond}
+use mathlib.Core.List.{List}
 use Prim.Native.Nat.{ℕ, _+_, _-_, _*_, _≤_, _<_, _^_, min}
+use lib.Dec.{eqb, ltb}
 use lib.ListN.{length, drop}
 use lib.Seq.{sets}
-use Rattle.guard.specs.Guards.{started, advanced}
+use Rattle.guard.specs.Guards.{advanced}
 use Rattle.field.specs.declared.Domain.{Domain}
-use Rattle.field.specs.Tests.{pick}
 use Rattle.field.specs.Domains.{signed}
 use Rattle.layout.specs.declared.Layout.{Layout}
 use Rattle.layout.specs.Pieces.{total, places}
@@ -21,7 +21,7 @@ use Rattle.engine.specs.Standing.{Matched}
 
 -- a side after some data bytes
 abbrev pub sideTaken : Domain → Bool → Side → List ℕ → Side
-sideTaken d works s xs = record { index = s .index; at = s .at + length xs; guard = pick works (advanced (d .«guard_type») (s .guard) xs) (s .guard) }
+sideTaken d works s xs = record { index = s .index; at = s .at + length xs; guard = cond works (advanced (d .«guard_type») (s .guard) xs) (s .guard) }
 
 abbrev pub dataTaken : Rule → Progress → List ℕ → Progress
 dataTaken r p xs = record {
@@ -54,6 +54,11 @@ pub record InStep (r : Rule) (p : Progress) : Type 0 where
   pub at : p .output .at ≡ min (p .input .at) (inBlock r)
   pub within : p .input .at ≤ inUnit r
   pub eight : length (p .held) ≡ 8
+
+-- the same of a progress of any making, as a test, with a unit begun and not whole
+unfoldable pub inStep : Rule → Progress → Bool
+inStep r p =
+    eqb (p .output .index) (p .input .index) && (eqb (p .output .at) (min (p .input .at) (inBlock r)) && ltb (p .input .at) (inUnit r))
 
 -- So many bytes more fit the layout from its byte x on, behind those that are placed.
 pub record Room (r : Rule) (p : Progress) (l : Layout) (memory x more : ℕ) : Type 0 where

@@ -1,13 +1,12 @@
 -- Where the engine stands after some bytes of the input stream, said by the transfer rule.
 use mathlib.Core.Path.{_≡_}
-use mathlib.Core.Bool.{Bool, true, false}
-use mathlib.Core.List.{List, [], _∷_, _++_}
-use Prim.Native.Nat.{ℕ, _*_, _≤_, _<_}
+use mathlib.Core.Bool.{Bool, true, false, cond}
+use mathlib.Core.List.{List, [], _++_}
+use Prim.Native.Nat.{ℕ, _*_, _≤_}
 use lib.ListN.{length, take, drop}
 use Rattle.guard.specs.declared.Running.{Running}
 use Rattle.guard.specs.Guards.{started, advanced}
 use Rattle.field.specs.declared.Domain.{Domain}
-use Rattle.field.specs.Tests.{pick}
 use Rattle.field.specs.Domains.{signed}
 use Rattle.field.specs.Fields.{fieldOf}
 use Rattle.key.specs.declared.Slot.{Slot}
@@ -33,7 +32,7 @@ unitOut r stream i = inputBlock r stream i ++ fieldBehind r stream i (inputBlock
 -- a domain's running guard over a block's first bytes, where it is worked out
 abbrev pub running : Domain → Bool → List ℕ → Running
 running d works bytes =
-    pick works (advanced (d .«guard_type») (started (d .seed)) bytes) (started (d .seed))
+    cond works (advanced (d .«guard_type») (started (d .seed)) bytes) (started (d .seed))
 
 -- The progress p after the bytes xs, with out placed: `past` came as whole units and `left` over them, at most a unit.
 pub record Reached (r : Rule) (slot : Slot) (xs : List ℕ) (p : Progress) (out : List ℕ) : Type 0 where

@@ -1,19 +1,19 @@
 -- Blocks and units of a domain's stream (01, "The transfer rule" and "Packets").
 use mathlib.Core.List.{List}
+use mathlib.Core.Bool.{cond}
 use Prim.Native.Nat.{ℕ, _+_, _*_}
 use lib.ListN.{take, drop}
 use Rattle.field.specs.declared.Domain.{Domain}
-use Rattle.field.specs.Tests.{pick}
 use Rattle.field.specs.Domains.{signed}
 use Rattle.engine.specs.declared.Rule.{Rule}
 
 -- a domain's block size; a domain without a signature takes the other's, or 1 if neither has one
 unfoldable pub blockSize : Domain → Domain → ℕ
-blockSize d other = pick (signed d) (d .«block_size») (pick (signed other) (other .«block_size») 1)
+blockSize d other = cond (signed d) (d .«block_size») (cond (signed other) (other .«block_size») 1)
 
 -- how many field bytes stand behind each block
 unfoldable pub fieldSize : Domain → ℕ
-fieldSize d = pick (signed d) 8 0
+fieldSize d = cond (signed d) 8 0
 
 -- a unit of a domain's stream: a block with its field, or a bare block
 abbrev pub unitSize : Domain → Domain → ℕ

@@ -1,14 +1,12 @@
 -- The transfer rule (01, "The transfer rule"), direction-free: from the input stream come the output stream and the first error.
-use mathlib.Core.Bool.{Bool, true, false}
-use mathlib.Core.List.{List, [], _∷_, _++_}
+use mathlib.Core.List.{List, [], _++_}
+use mathlib.Core.Bool.{cond}
 use Prim.Native.Nat.{ℕ, zero, suc, _+_, _*_}
 use lib.ListN.{take, drop}
 use Rattle.guard.specs.Guards.{guardOf}
 use Rattle.field.specs.declared.Domain.{Domain}
-use Rattle.field.specs.declared.Mismatch.{Mismatch}
 use Rattle.field.specs.declared.Judgement.{Judgement}
 use Rattle.field.specs.declared.Judgement.the-variants.{Good, Bad}
-use Rattle.field.specs.Tests.{pick}
 use Rattle.field.specs.Domains.{signed}
 use Rattle.field.specs.Fields.{bytesOf, fieldOf, given}
 use Rattle.field.specs.Judging.{judged}
@@ -17,7 +15,7 @@ use Rattle.key.specs.declared.Slot.{Slot}
 use Rattle.key.specs.declared.Slot.the-variants.{Empty, Holding}
 use Rattle.key.specs.Keys.{keep}
 use Rattle.engine.specs.declared.Rule.{Rule}
-use Rattle.engine.specs.Streams.{inBlock, inUnit, outBlock, inputBlock, inputField}
+use Rattle.engine.specs.Streams.{inUnit, outBlock, inputBlock, inputField}
 
 -- a domain's guard of a block
 abbrev pub guardBy : Domain → List ℕ → ℕ
@@ -41,7 +39,7 @@ outputBlock r stream n j = take (outBlock r) (drop (j * outBlock r) (dataOf r st
 -- The field behind block j of the output, which holds this data: byte by byte copied from the field of input block j or generated from the output domain.
 unfoldable pub fieldBehind : Rule → List ℕ → ℕ → List ℕ → List ℕ
 fieldBehind r stream j block =
-    pick (signed (r .output))
+    cond (signed (r .output))
     (bytesOf (outputField (r .«copy_mask») (fieldOf (inputField r stream j)) (given (r .output) j (guardBy (r .output) block)))) []
 
 abbrev pub outputUnit : Rule → List ℕ → ℕ → ℕ → List ℕ
@@ -60,7 +58,7 @@ slotOf offset (Bad m) = Holding (record { part = m .part; actual = m .actual; ex
 
 -- the error of input block i, given the guard of its data and the field behind it; with no input signature nothing is checked
 unfoldable pub errorBy : Rule → ℕ → ℕ → List ℕ → Slot
-errorBy r i g found = pick (signed (r .input)) (slotOf (i * inUnit r) (judged (r .input) (r .«check_mask») i g (fieldOf found))) Empty
+errorBy r i g found = cond (signed (r .input)) (slotOf (i * inUnit r) (judged (r .input) (r .«check_mask») i g (fieldOf found))) Empty
 
 abbrev pub errorOf : Rule → List ℕ → ℕ → Slot
 errorOf r stream i = errorBy r i (guardBy (r .input) (inputBlock r stream i)) (inputField r stream i)

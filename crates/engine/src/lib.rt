@@ -11,6 +11,7 @@ use key::Slot;
 pub use sides::taken;
 pub use sides::written;
 pub use stream::feed;
+pub use stream::in_step;
 
 // What a transfer goes by. The copy mask is the one in force, given or automatic.
 pub struct Rule {

@@ -1,9 +1,10 @@
 // Feeding the input stream, part by part.
 ghost use mathlib.Core.Path.{_≡_};
-ghost use Prim.Native.Nat.{_+_, _≤_, _<_, _^_, min};
+ghost use Prim.Native.Nat.{_+_, _≤_, _<_, min};
 ghost use lib.ListN.{length};
 ghost use Rattle.engine.specs.Streams.{inUnit};
 ghost use Rattle.engine.specs.Feeding.{emitted};
+ghost use Rattle.engine.specs.Parts as parts;
 ghost use Rattle.engine.specs.Parts.{OnePart, Bare, InStep, Room, Fed};
 use crate::Progress;
 use crate::Rule;
@@ -15,6 +16,21 @@ use crate::sides::written;
 use crate::whole;
 use layout::Layout;
 use layout::LayoutOffset;
+
+// Whether a progress of any making stands in step. Each that feeding gives does.
+pub fn in_step(rule: Rule, p: Progress) -> bool
+    ensures { λ r. ⌜ r ≡ parts.inStep rule p ⌝ }
+{
+    let at = p.input.at;
+    if p.output.index != p.input.index {
+        return false;
+    }
+    let shown = lesser(at, block_size(rule.input, rule.output) as usize);
+    if p.output.at != shown as u64 {
+        return false;
+    }
+    at < unit_size(rule.input, rule.output)
+}
 
 // How many of so many bytes belong to the block or to the field under way.
 fn part_length(rule: Rule, p: Progress, bytes: usize) -> usize

@@ -1,6 +1,6 @@
 // A whole unit: its error, its output field, and the next.
 ghost use mathlib.Core.Path.{_≡_};
-ghost use Prim.Native.Nat.{_+_, _≤_, _^_};
+ghost use Prim.Native.Nat.{_+_};
 ghost use lib.ListN.{length, drop};
 ghost use Rattle.layout.specs.Pieces.{places};
 ghost use Rattle.layout.specs.Moves.{scattered};

@@ -1,13 +1,13 @@
 -- Laws about protection fields. Assumes nothing.
 use mathlib.Core.Path.{_≡_}
-use mathlib.Core.Bool.{Bool, true, false}
+use mathlib.Core.Bool.{Bool, true, false, cond}
 use mathlib.Core.List.{[], _∷_}
 use Prim.Native.Nat.{ℕ, _-_, _/_, _%_, _≤_, _<_}
 use native.Mathlib.Omega.{arith}
 use borrow.Author.Tests.{eq-eqb, ne-eqb, le-ltb}
 use Rattle.field.specs.declared.Domain.{Domain}
 use Rattle.field.specs.declared.ProtectionField.{ProtectionField}
-use Rattle.field.specs.Tests.{not, pick, bit}
+use Rattle.field.specs.Tests.{bit}
 use Rattle.field.specs.Fields.{bytesOf, fieldOf, given}
 use Rattle.field.specs.Judging.{escaped, checked, differs, digit, maskOf, differing, firstBad, judged}
 use Rattle.field.specs.Output.{merged, outputField}
@@ -42,7 +42,7 @@ same-bad : (found : ProtectionField) (d : Domain) (i s g g′ : ℕ) → s ≤ 6
 unfolding firstBad given
 same-bad found d i s g g′ h = rw (le-ltb 63 s h)
 
-fewer : (b : Bool) (m : ℕ) → m < 64 → pick b (m % 64) m < 64
+fewer : (b : Bool) (m : ℕ) → m < 64 → cond b (m % 64) m < 64
 fewer true m h = omega arith
 fewer false m h = h
 

@@ -1,5 +1,5 @@
 -- Checking a found field (01, "The transfer rule", "Escape" and "Error slot").
-use mathlib.Core.Bool.{Bool, true, false}
+use mathlib.Core.Bool.{Bool, true, false, _&&_, _||_, not, cond}
 use mathlib.Core.List.{List, [], _∷_}
 use Prim.Native.Nat.{ℕ, _+_, _*_, _%_}
 use lib.Dec.{eqb, ltb}
@@ -10,26 +10,25 @@ use Rattle.field.specs.declared.Judgement.{Judgement}
 use Rattle.field.specs.declared.Judgement.the-variants.{Good, Bad}
 use Rattle.field.specs.declared.Part.{Part}
 use Rattle.field.specs.declared.Part.the-variants.{Guard, Application, Reference}
-use Rattle.field.specs.Tests.{and, or, not, pick}
 use Rattle.field.specs.Domains.{escapesByApplication, escapesByBoth}
 use Rattle.field.specs.Fields.{bytesOf, bytesIn, given}
 
 -- The escape (000): the application field reads 0xFFFF, and under flag 4 the reference field 0xFFFFFFFF. The field is read whole.
 unfoldable pub escaped : Domain → ProtectionField → Bool
 escaped d found =
-    and (eqb (found .application) 0xFFFF)
-    (or (escapesByApplication d) (and (escapesByBoth d) (eqb (found .reference) 0xFFFFFFFF)))
+    eqb (found .application) 0xFFFF &&
+    (escapesByApplication d || (escapesByBoth d && eqb (found .reference) 0xFFFFFFFF))
 
 -- the bytes to be checked: of an escaped block all but the guard's
 unfoldable pub checked : Domain → ℕ → ProtectionField → ℕ
-checked d mask found = pick (escaped d found) (mask % 64) mask
+checked d mask found = cond (escaped d found) (mask % 64) mask
 
 -- which of the checked bytes differ
 unfoldable pub differs : List Bool → List ℕ → List ℕ → List Bool
 differs [] xs ys = []
 differs (c ∷ cs) [] ys = []
 differs (c ∷ cs) (x ∷ xs) [] = []
-differs (c ∷ cs) (x ∷ xs) (y ∷ ys) = and c (not (eqb x y)) ∷ differs cs xs ys
+differs (c ∷ cs) (x ∷ xs) (y ∷ ys) = (c && not (eqb x y)) ∷ differs cs xs ys
 
 abbrev pub digit : Bool → ℕ
 digit true = 1
@@ -53,9 +52,9 @@ mismatch Reference right found = record { part = Reference; actual = right .refe
 -- The first bad part by the set of differing bytes: bits 7 and 6 are the guard's, 5 and 4 the application tag's, the others the reference tag's.
 unfoldable pub firstBad : ℕ → ProtectionField → ProtectionField → Judgement
 firstBad set right found =
-    pick (ltb 63 set) (Bad (mismatch Guard right found))
-    (pick (ltb 15 (set % 64)) (Bad (mismatch Application right found))
-    (pick (ltb 0 (set % 16)) (Bad (mismatch Reference right found)) Good))
+    cond (ltb 63 set) (Bad (mismatch Guard right found))
+    (cond (ltb 15 (set % 64)) (Bad (mismatch Application right found))
+    (cond (ltb 0 (set % 16)) (Bad (mismatch Reference right found)) Good))
 
 -- what is wrong with the field found behind block i, whose data has guard g, under a domain and a check mask
 unfoldable pub judged : Domain → ℕ → ℕ → ℕ → ProtectionField → Judgement

@@ -1,6 +1,6 @@
 // A field between its eight bytes and its three numbers.
 ghost use mathlib.Core.Path.{_≡_};
-ghost use Prim.Native.Nat.{_+_, _*_, _/_, _%_, _<_};
+ghost use Prim.Native.Nat.{_+_, _*_, _/_, _%_};
 ghost use Rattle.field.specs.Fields.{bytesOf, fieldOf, twoBytes};
 use crate::ProtectionField;
 

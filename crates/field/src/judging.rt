@@ -1,8 +1,8 @@
 // Checking a found field.
 ghost use mathlib.Core.Path.{_≡_};
+ghost use mathlib.Core.Bool.{_&&_, not};
 ghost use Prim.Native.Nat.{_+_, _*_, _/_, _%_, _≤_};
 ghost use lib.Dec.{eqb};
-ghost use Rattle.field.specs.Tests.{and, not, bit};
 ghost use Rattle.field.specs.Judging as judging;
 ghost use Rattle.field.specs.Judging.{digit, judged};
 use crate::Domain;
@@ -63,13 +63,13 @@ pub fn differing(mask: u8, found: ProtectionField, right: ProtectionField) -> u8
 
 // Which of two checked bytes differ: 2 for the high one, 1 for the low one.
 fn pair(high: bool, low: bool, x: u16, y: u16) -> u8
-    ensures { λ r. ⌜ (r ≡ digit (and high (not (eqb (x / 256) (y / 256)))) * 2 + digit (and low (not (eqb (x % 256) (y % 256))))) × (r ≤ 3) ⌝ }
+    ensures { λ r. ⌜ (r ≡ digit (high && not (eqb (x / 256) (y / 256))) * 2 + digit (low && not (eqb (x % 256) (y % 256)))) × (r ≤ 3) ⌝ }
 {
     one(high, x / 256, y / 256) * 2 + one(low, x % 256, y % 256)
 }
 
 fn one(checked: bool, x: u16, y: u16) -> u8
-    ensures { λ r. ⌜ (r ≡ digit (and checked (not (eqb x y)))) × (r ≤ 1) ⌝ }
+    ensures { λ r. ⌜ (r ≡ digit (checked && not (eqb x y))) × (r ≤ 1) ⌝ }
 {
     if checked {
         if x == y { 0 } else { 1 }

@@ -51,6 +51,21 @@ pub enum Judgement {
     Bad(Mismatch),
 }
 
+// A domain without a signature.
+pub fn unsigned() -> Domain
+    ensures { λ d. ⌜ d ≡ domains.noDomain ⌝ }
+{
+    Domain {
+        kind: 0,
+        block_size: 0,
+        guard_type: 0,
+        reference_tag: 0,
+        seed: 0,
+        application_tag: 0,
+        flags: 0,
+    }
+}
+
 pub fn signed(d: Domain) -> bool
     ensures { λ r. ⌜ r ≡ domains.signed d ⌝ }
 {

@@ -1,7 +1,7 @@
 // Making an output field.
 ghost use mathlib.Core.Path.{_≡_};
+ghost use mathlib.Core.Bool.{cond};
 ghost use Prim.Native.Nat.{_+_, _*_, _/_, _%_, _≤_, _<_};
-ghost use Rattle.field.specs.Tests.{and, same, pick};
 ghost use Rattle.field.specs.Fields.{twoBytes};
 ghost use Rattle.field.specs.Output.{agreed, copyMask, outputField};
 use crate::Domain;
@@ -28,29 +28,17 @@ pub fn copy_mask(attribute_flags: u32, mask: u8, input: Domain, output: Domain) 
 fn agreement(a: Domain, b: Domain) -> u8
     ensures { λ r. ⌜ r ≡ agreed a b ⌝ }
 {
-    let guard = chosen(both(a.guard_type == b.guard_type, a.seed == b.seed), 0xC0);
+    let guard = chosen((a.guard_type == b.guard_type) & (a.seed == b.seed), 0xC0);
     let application = chosen(a.application_tag == b.application_tag, 0x30);
-    let remap = alike(crate::remaps(a), crate::remaps(b));
-    let reference = chosen(both(a.reference_tag == b.reference_tag, remap), 0x0F);
+    let remap = crate::remaps(a) == crate::remaps(b);
+    let reference = chosen((a.reference_tag == b.reference_tag) & remap, 0x0F);
     guard + application + reference
 }
 
 fn chosen(yes: bool, bits: u8) -> u8
-    ensures { λ r. ⌜ (r ≡ pick yes bits 0) × (r ≤ bits) ⌝ }
+    ensures { λ r. ⌜ (r ≡ cond yes bits 0) × (r ≤ bits) ⌝ }
 {
     if yes { bits } else { 0 }
-}
-
-fn both(x: bool, y: bool) -> bool
-    ensures { λ r. ⌜ r ≡ and x y ⌝ }
-{
-    if x { y } else { false }
-}
-
-fn alike(x: bool, y: bool) -> bool
-    ensures { λ r. ⌜ r ≡ same x y ⌝ }
-{
-    if x { y } else { !y }
 }
 
 // Each byte copied where the mask's bit is set, else generated.
@@ -88,7 +76,7 @@ pub fn output(mask: u8, copied: ProtectionField, generated: ProtectionField) -> 
 
 // Two bytes, each the copied one where its bit is set.
 fn pair(high: bool, low: bool, copied: u16, generated: u16) -> u16
-    ensures { λ r. ⌜ r ≡ twoBytes (pick high (copied / 256) (generated / 256)) (pick low (copied % 256) (generated % 256)) ⌝ }
+    ensures { λ r. ⌜ r ≡ twoBytes (cond high (copied / 256) (generated / 256)) (cond low (copied % 256) (generated % 256)) ⌝ }
 {
     chosen_byte(high, copied / 256, generated / 256) * 256
         + chosen_byte(low, copied % 256, generated % 256)
@@ -96,7 +84,7 @@ fn pair(high: bool, low: bool, copied: u16, generated: u16) -> u16
 
 fn chosen_byte(first: bool, x: u16, y: u16) -> u16
     requires { ⌜ (x < 256) × (y < 256) ⌝ }
-    ensures { λ r. ⌜ (r ≡ pick first x y) × (r < 256) ⌝ }
+    ensures { λ r. ⌜ (r ≡ cond first x y) × (r < 256) ⌝ }
 {
     if first { x } else { y }
 }

@@ -1,24 +1,20 @@
 -- What an accepted configure and an accepted open tell, and which keys come from these calls. Assumes nothing.
 use mathlib.Core.Path.{_≡_, refl, sym}
-use mathlib.Core.Bool.{Bool, true, false}
-use mathlib.Core.List.{List, [], _∷_}
+use mathlib.Core.Bool.{Bool, true, false, _&&_, _||_, not, cond}
 use Prim.Native.Nat.{ℕ, _+_, _-_, _*_, _/_, _%_, _≤_, _<_}
-use native.Mathlib.Nat.{mul-comm, mul-le-mul, mul-le-mul-left, suc-mul, div-add-mod'}
+use native.Mathlib.Nat.{mul-le-mul-left, div-add-mod'}
 use native.Mathlib.Omega.{arith}
 use lib.Dec.{eqb, ltb}
-use lib.ListN.{length, length-take}
+use lib.ListN.{length}
 use borrow.Author.Tests.{eqb-true, eqb-false, lt-ltb, le-ltb, ltb-true, ltb-false}
 use Rattle.field.specs.declared.Domain.{Domain}
 use Rattle.field.specs.declared.ProtectionField.{ProtectionField}
-use Rattle.field.specs.Tests.{and, or, not, pick}
 use Rattle.field.specs.Domains.{signed, escapesByApplication, escapesByBoth}
 use Rattle.field.specs.Judging.{escaped}
-use Rattle.layout.specs.declared.Layout.{Layout}
 use Rattle.layout.specs.declared.answer.Verdict.{Verdict}
 use Rattle.layout.specs.declared.answer.Verdict.the-variants.{Sound, Malformed, Outside, Overlapping}
-use Rattle.layout.specs.Pieces.{Piece, inUse, pieces, size, total}
-use Rattle.layout.specs.Moves.{Within}
-use Rattle.layout.specs.Answers.{verdictOn}
+use Rattle.layout.specs.Pieces.{size, total}
+use Rattle.layout.specs.Answers.{verdictOn, fits}
 use Rattle.layout.proofs.AnswerLaws.{fits-told}
 use Rattle.layout.proofs.CountLaws.{sound-fits}
 use Rattle.layout.specs.Steps.{Fits}
@@ -33,13 +29,13 @@ use Rattle.key.specs.declared.Refusal.{Refusal}
 use Rattle.key.specs.declared.Refusal.the-variants.{BadDomain, EscapeTag, CopyMask, BlockSizes, MemoryLength, PartialBlock, PastLayout, ShortWire, NotConfigured}
 use Rattle.key.specs.Numbers.{refuse}
 use Rattle.key.specs.Configuring.{badBlockSize, badSeed, badDomain, GoodDomain, escapesAlways, sameSize, bothSigned, signatureAnswer, layoutAnswer, then, configureAnswer}
-use Rattle.key.specs.Keys.{freshKey, withSlot, configuredBy, configuring, checking, keep, CameFromCalls, Usable}
+use Rattle.key.specs.Keys.{freshKey, withSlot, configuredBy, configuring, checking, keep, CameFromCalls, accepts, usable, Usable}
 use Rattle.key.specs.Streams.{streamLength, Sized}
 use Rattle.key.specs.Admitting.{partial, openAnswer, transferAnswer, Bounded, Blocks, Admitted}
 
 -- ---- tests
 
-or-false : (a b : Bool) → or a b ≡ false → (a ≡ false) × (b ≡ false)
+or-false : (a b : Bool) → a || b ≡ false → (a ≡ false) × (b ≡ false)
 or-false true b h = let z : _≡_ {A = ℕ} 0 1 = cc in absurd (omega arith)
 or-false false b h = (refl, h)
 
@@ -83,7 +79,7 @@ pub data-in-stream : (d : Domain) (n : ℕ) → n ≤ streamLength d n
 unfolding streamLength
 data-in-stream d n = go (signed d)
   where
-    go : (b : Bool) → n ≤ pick b (n + n / d .«block_size» * 8) n
+    go : (b : Bool) → n ≤ cond b (n + n / d .«block_size» * 8) n
     go true = omega arith
     go false = omega arith
 
@@ -103,23 +99,23 @@ pub record Signs (s : Signature) : Type 0 where
   pub wire : badDomain (s .wire) ≡ false
   pub memory-tag : escapesAlways (s .memory) ≡ false
   pub wire-tag : escapesAlways (s .wire) ≡ false
-  pub sizes : and (bothSigned s) (not (sameSize s)) ≡ false
+  pub sizes : bothSigned s && not (sameSize s) ≡ false
 
 pub signature-done : (s : Signature) → signatureAnswer s ≡ Done → Signs s
 unfolding signatureAnswer
 signature-done s h =
     let f =
     none-of-four
-    (or (badDomain (s .memory)) (or (badDomain (s .wire)) (ltb 1 (s .«attribute_flags»))))
-    (or (escapesAlways (s .memory)) (escapesAlways (s .wire)))
-    (and (eqb (s .«attribute_flags») 1) (not (and (bothSigned s) (sameSize s))))
-    (and (bothSigned s) (not (sameSize s)))
+    (badDomain (s .memory) || (badDomain (s .wire) || ltb 1 (s .«attribute_flags»)))
+    (escapesAlways (s .memory) || escapesAlways (s .wire))
+    (eqb (s .«attribute_flags») 1 && not (bothSigned s && sameSize s))
+    (bothSigned s && not (sameSize s))
     BadDomain
     EscapeTag
     CopyMask
     BlockSizes
     h in
-    let m = or-false (badDomain (s .memory)) (or (badDomain (s .wire)) (ltb 1 (s .«attribute_flags»))) (f .0) in
+    let m = or-false (badDomain (s .memory)) (badDomain (s .wire) || ltb 1 (s .«attribute_flags»)) (f .0) in
     let w = or-false (badDomain (s .wire)) (ltb 1 (s .«attribute_flags»)) (m .1) in
     let t = or-false (escapesAlways (s .memory)) (escapesAlways (s .wire)) (f .1) in
     record { memory = m .0; wire = w .0; memory-tag = t .0; wire-tag = t .1; sizes = f .3 }
@@ -140,7 +136,7 @@ configure-done n c h =
 seed-small : (n : ℕ) → badSeed n ≡ false → n ≤ 65535
 seed-small n h = go (eqb n 0) (eqb n 0xFFFF) refl refl h
   where
-    go : (a b : Bool) → eqb n 0 ≡ a → eqb n 0xFFFF ≡ b → and (not a) (not b) ≡ false → n ≤ 65535
+    go : (a b : Bool) → eqb n 0 ≡ a → eqb n 0xFFFF ≡ b → not a && not b ≡ false → n ≤ 65535
     go true b e f z = omega (arith, eqb-true n 0 e)
     go false true e f z = omega (arith, eqb-true n 0xFFFF f)
     go false false e f z = let y : _≡_ {A = ℕ} 0 1 = cc in absurd (omega arith)
@@ -169,10 +165,15 @@ sized d h s = good-domain d h s .least
 -- ---- keys from these calls
 
 -- a key from these calls is usable
-pub usable : (k : Key) → CameFromCalls k → Usable k
-usable k came =
-    let g : k .configured ≡ true → Accepts (k .«memory_length») (record { signature = k .signature; layout = k .layout }) = λ h. configure-done _ _ (came .accepted h) in
-    record { limit = λ h. g h .limit; signature = λ h. g h .signature; layout = λ h. sound-fits (k .layout) (k .«memory_length») (g h .sound) }
+pub came-usable : (k : Key) → CameFromCalls k → Usable k
+unfolding usable
+came-usable k came = go (k .configured) refl
+  where
+    go : (b : Bool) → k .configured ≡ b → usable k ≡ true
+    go false e = rw e refl
+    go true e =
+        let g = configure-done (k .«memory_length») (record { signature = k .signature; layout = k .layout }) (came .accepted e) in
+        rw (e, le-ltb 16777216 (k .«memory_length») (g .limit), g .signature, sound-fits (k .layout) (k .«memory_length») (g .sound)) refl
 
 -- What a configured key holds.
 pub record Held (k : Key) : Type 0 where
@@ -181,11 +182,19 @@ pub record Held (k : Key) : Type 0 where
   pub fits : Fits (k .layout) (k .«memory_length»)
   pub bounded : Bounded (k .layout)
 
+all-three : (a : Bool) (o : Outcome) (b : Bool) → not a && (accepts o && b) ≡ true → (a ≡ false) × (o ≡ Done) × (b ≡ true)
+all-three true o b h = let z : _≡_ {A = ℕ} 0 1 = cc in absurd (omega arith)
+all-three false (Refused r) b h = let z : _≡_ {A = ℕ} 0 1 = cc in absurd (omega arith)
+all-three false Done b h = (refl, refl, h)
+
 pub held : (k : Key) → Usable k → k .configured ≡ true → Held k
+unfolding usable
 held k u h =
-    let f = fits-told (k .layout) (k .«memory_length») (u .layout h) in
-    let b : total (k .layout) ≤ 16777216 = omega (arith, f .small, u .limit h) in
-    record { limit = u .limit h; signs = signature-done (k .signature) (u .signature h); fits = f; bounded = record { used = f .shaped .used; few = f .shaped .few; small = b } }
+    let t = all-three (ltb 16777216 (k .«memory_length»)) (signatureAnswer (k .signature)) (fits (k .layout) (k .«memory_length»)) (rw h at u) in
+    let f = fits-told (k .layout) (k .«memory_length») (t .2) in
+    let l = ltb-false 16777216 (k .«memory_length») (t .0) in
+    let b : total (k .layout) ≤ 16777216 = omega (arith, f .small, l) in
+    record { limit = l; signs = signature-done (k .signature) (t .1); fits = f; bounded = record { used = f .shaped .used; few = f .shaped .few; small = b } }
 
 pub came-fresh : CameFromCalls freshKey
 came-fresh = record { never = λ h. refl; accepted = λ h. let z : _≡_ {A = ℕ} 0 1 = cc in absurd (omega arith) }
@@ -221,7 +230,7 @@ blocks d n b p s = record { good = good-domain d b s; whole = eqb-true (n % d .�
 
 one-size :
     (s : Signature)
-    → and (bothSigned s) (not (sameSize s)) ≡ false
+    → bothSigned s && not (sameSize s) ≡ false
     → signed (s .memory) ≡ true
     → signed (s .wire) ≡ true
     → s .memory .«block_size» ≡ s .wire .«block_size»
@@ -237,7 +246,7 @@ admitted k n x length u h =
     none-of-four
     (not (k .configured))
     (not (eqb n (k .«memory_length»)))
-    (or (partial m length) (partial w length))
+    (partial m length || partial w length)
     (ltb (total (k .layout)) (x + streamLength m length))
     NotConfigured
     MemoryLength
@@ -275,10 +284,10 @@ transfer-admitted k n x length w h =
 
 -- What answer 2 leaves of a T10-DIF domain: with an escape flag its tag is not 0xFFFF, and a block that carries its tag is never escaped.
 pub record Shut (d : Domain) : Type 0 where
-  pub tag : signed d ≡ true → or (escapesByApplication d) (escapesByBoth d) ≡ true → d .«application_tag» ≡ 0xFFFF → ⊥
+  pub tag : signed d ≡ true → escapesByApplication d || escapesByBoth d ≡ true → d .«application_tag» ≡ 0xFFFF → ⊥
   pub never : signed d ≡ true → (found : ProtectionField) → found .application ≡ d .«application_tag» → escaped d found ≡ false
 
-no-escape : (t a b r : Bool) → and (or a b) t ≡ false → and t (or a (and b r)) ≡ false
+no-escape : (t a b r : Bool) → (a || b) && t ≡ false → t && (a || (b && r)) ≡ false
 no-escape false a b r h = refl
 no-escape true true b r h = h
 no-escape true false true r h = let z : _≡_ {A = ℕ} 0 1 = cc in absurd (omega arith)

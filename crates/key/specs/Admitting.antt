@@ -1,10 +1,9 @@
 -- Answers 14, 8, 9, 10 as a transfer and open give them, and 11 for a transfer (01, "Numbered answers").
-use mathlib.Core.Bool.{Bool, true, false}
+use mathlib.Core.Bool.{Bool, true, _&&_, _||_, not}
 use mathlib.Core.Path.{_≡_}
 use Prim.Native.Nat.{ℕ, _+_, _*_, _%_, _^_, _≤_}
 use lib.Dec.{eqb, ltb}
 use Rattle.field.specs.declared.Domain.{Domain}
-use Rattle.field.specs.Tests.{and, or, not}
 use Rattle.field.specs.Domains.{signed}
 use Rattle.layout.specs.declared.Layout.{Layout}
 use Rattle.layout.specs.Pieces.{total}
@@ -19,14 +18,14 @@ use Rattle.key.specs.Streams.{streamLength}
 
 -- the length is not a multiple of a T10-DIF domain's block size
 abbrev pub partial : Domain → ℕ → Bool
-partial d length = and (signed d) (not (eqb (length % d .«block_size») 0))
+partial d length = signed d && not (eqb (length % d .«block_size») 0)
 
 -- open's answer on a memory of n bytes, from layout byte x, for so many data bytes: 14, 8, 9, 10; sums are exact
 unfoldable pub openAnswer : Key → ℕ → ℕ → ℕ → Outcome
 openAnswer k n x length =
     refuse (not (k .configured)) NotConfigured
     (refuse (not (eqb n (k .«memory_length»))) MemoryLength
-    (refuse (or (partial (k .signature .memory) length) (partial (k .signature .wire) length)) PartialBlock
+    (refuse (partial (k .signature .memory) length || partial (k .signature .wire) length) PartialBlock
     (refuse (ltb (total (k .layout)) (x + streamLength (k .signature .memory) length)) PastLayout Done)))
 
 -- a transfer's answer, on a wire buffer of w bytes: open's, then 11

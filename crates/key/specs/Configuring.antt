@@ -1,10 +1,10 @@
 -- Answers 1 to 8 as configure gives them (01, "Numbered answers").
 use mathlib.Core.Path.{_≡_}
-use mathlib.Core.Bool.{Bool, true, false}
+use mathlib.Core.Bool.{Bool, _&&_, _||_, not}
 use Prim.Native.Nat.{ℕ, _%_, _≤_}
 use lib.Dec.{eqb, ltb}
 use Rattle.field.specs.declared.Domain.{Domain}
-use Rattle.field.specs.Tests.{and, or, not, bit}
+use Rattle.field.specs.Tests.{bit}
 use Rattle.field.specs.Domains.{signed, escapesByApplication, escapesByBoth}
 use Rattle.layout.specs.declared.answer.Verdict.{Verdict}
 use Rattle.layout.specs.declared.answer.Verdict.the-variants.{Sound, Malformed, Outside, Overlapping}
@@ -18,22 +18,22 @@ use Rattle.key.specs.Numbers.{refuse}
 
 -- block size: a multiple of 8 from 8 to 4,160
 abbrev pub badBlockSize : ℕ → Bool
-badBlockSize n = or (not (eqb (n % 8) 0)) (or (ltb n 8) (ltb 4160 n))
+badBlockSize n = not (eqb (n % 8) 0) || (ltb n 8 || ltb 4160 n)
 
 -- seed: 0 or 0xFFFF
 abbrev pub badSeed : ℕ → Bool
-badSeed n = and (not (eqb n 0)) (not (eqb n 0xFFFF))
+badSeed n = not (eqb n 0) && not (eqb n 0xFFFF)
 
 -- flags 2 and 4 together are bad, and so is any value above 7
 abbrev pub badFlags : ℕ → Bool
-badFlags n = or (ltb 7 n) (and (bit n 2) (bit n 4))
+badFlags n = ltb 7 n || (bit n 2 && bit n 4)
 
 -- 1, of one domain: its kind is not 0 or 1, or it is of kind 1 and block size, guard type (0 or 1), seed or flags are bad
 abbrev pub badDomain : Domain → Bool
 badDomain d =
-    or (ltb 1 (d .kind))
-    (and (signed d) (or (badBlockSize (d .«block_size»)) (or (ltb 1 (d .«guard_type»))
-    (or (badSeed (d .seed)) (badFlags (d .flags))))))
+    ltb 1 (d .kind) ||
+    (signed d && (badBlockSize (d .«block_size») || (ltb 1 (d .«guard_type») ||
+    (badSeed (d .seed) || badFlags (d .flags)))))
 
 -- What answer 1 leaves of a T10-DIF domain.
 pub record GoodDomain (d : Domain) : Type 0 where
@@ -45,21 +45,21 @@ pub record GoodDomain (d : Domain) : Type 0 where
 
 -- 2: a T10-DIF domain has an escape flag and configured application tag 0xFFFF
 abbrev pub escapesAlways : Domain → Bool
-escapesAlways d = and (signed d) (and (or (escapesByApplication d) (escapesByBoth d)) (eqb (d .«application_tag») 0xFFFF))
+escapesAlways d = signed d && ((escapesByApplication d || escapesByBoth d) && eqb (d .«application_tag») 0xFFFF)
 
 abbrev pub sameSize : Signature → Bool
 sameSize s = eqb (s .memory .«block_size») (s .wire .«block_size»)
 
 abbrev pub bothSigned : Signature → Bool
-bothSigned s = and (signed (s .memory)) (signed (s .wire))
+bothSigned s = signed (s .memory) && signed (s .wire)
 
 -- 1 to 4 in order
 unfoldable pub signatureAnswer : Signature → Outcome
 signatureAnswer s =
-    refuse (or (badDomain (s .memory)) (or (badDomain (s .wire)) (ltb 1 (s .«attribute_flags»)))) BadDomain
-    (refuse (or (escapesAlways (s .memory)) (escapesAlways (s .wire))) EscapeTag
-    (refuse (and (eqb (s .«attribute_flags») 1) (not (and (bothSigned s) (sameSize s)))) CopyMask
-    (refuse (and (bothSigned s) (not (sameSize s))) BlockSizes Done)))
+    refuse (badDomain (s .memory) || (badDomain (s .wire) || ltb 1 (s .«attribute_flags»))) BadDomain
+    (refuse (escapesAlways (s .memory) || escapesAlways (s .wire)) EscapeTag
+    (refuse (eqb (s .«attribute_flags») 1 && not (bothSigned s && sameSize s)) CopyMask
+    (refuse (bothSigned s && not (sameSize s)) BlockSizes Done)))
 
 -- 5 to 7
 abbrev pub layoutAnswer : Verdict → Outcome

@@ -1,9 +1,10 @@
 -- Keys: fresh, configure, check, and which keys come from these calls (01, "What stands" and "Error slot").
 use mathlib.Core.Path.{_≡_}
-use mathlib.Core.Bool.{Bool, true, false}
-use Prim.Native.Nat.{ℕ, _≤_}
+use mathlib.Core.Bool.{Bool, true, false, _&&_, _||_, not}
+use Prim.Native.Nat.{ℕ}
+use lib.Dec.{ltb}
 use lib.ListN.{replicate}
-use Rattle.field.specs.declared.Domain.{Domain}
+use Rattle.field.specs.Domains.{noDomain}
 use Rattle.field.specs.declared.Part.{Part}
 use Rattle.field.specs.declared.Part.the-variants.{Guard, Application, Reference}
 use Rattle.layout.specs.declared.Layout.{Layout}
@@ -19,9 +20,6 @@ use Rattle.key.specs.declared.Slot.the-variants.{Empty, Holding}
 use Rattle.key.specs.declared.Outcome.{Outcome}
 use Rattle.key.specs.declared.Outcome.the-variants.{Done, Refused}
 use Rattle.key.specs.Configuring.{signatureAnswer, configureAnswer}
-
-abbrev pub noDomain : Domain
-noDomain = record { kind = 0; «block_size» = 0; «guard_type» = 0; «reference_tag» = 0; seed = 0; «application_tag» = 0; flags = 0 }
 
 abbrev pub noSignature : Signature
 noSignature = record { memory = noDomain; wire = noDomain; «attribute_flags» = 0; «check_mask» = 0; «copy_mask» = 0 }
@@ -70,8 +68,16 @@ pub record CameFromCalls (k : Key) : Type 0 where
   pub never : k .configured ≡ false → k .slot ≡ Empty
   pub accepted : k .configured ≡ true → configureAnswer (k .«memory_length») (record { signature = k .signature; layout = k .layout }) ≡ Done
 
--- The premise of the calls: what a transfer needs of a configured key to be safe and right. Every key from these calls is usable (`proofs/Laws`, usable).
-pub record Usable (k : Key) : Type 0 where
-  pub limit : k .configured ≡ true → k .«memory_length» ≤ 16777216
-  pub signature : k .configured ≡ true → signatureAnswer (k .signature) ≡ Done
-  pub layout : k .configured ≡ true → fits (k .layout) (k .«memory_length») ≡ true
+abbrev pub accepts : Outcome → Bool
+accepts Done = true
+accepts (Refused r) = false
+
+-- whether a transfer may run on a key: if it is configured, its memory is within the limit, and its signature and layout are ones to work by
+unfoldable pub usable : Key → Bool
+usable k =
+    not (k .configured) || (not (ltb 16777216 (k .«memory_length»)) &&
+    (accepts (signatureAnswer (k .signature)) && fits (k .layout) (k .«memory_length»)))
+
+-- The premise of the calls. Every key from these calls is usable (`proofs/Laws`, came-usable).
+abbrev pub Usable : Key → Type 0
+Usable k = usable k ≡ true

@@ -1,14 +1,13 @@
 -- Streams (01, "The transfer rule"): a domain's stream holds the data with a field after each block, or the data alone.
 use mathlib.Core.Path.{_≡_}
-use mathlib.Core.Bool.{Bool, true, false}
+use mathlib.Core.Bool.{true, cond}
 use Prim.Native.Nat.{ℕ, _+_, _*_, _/_, _≤_, _^_}
 use Rattle.field.specs.declared.Domain.{Domain}
-use Rattle.field.specs.Tests.{pick}
 use Rattle.field.specs.Domains.{signed}
 
 -- how long a domain's stream is for so many data bytes
 unfoldable pub streamLength : Domain → ℕ → ℕ
-streamLength d length = pick (signed d) (length + length / d .«block_size» * 8) length
+streamLength d length = cond (signed d) (length + length / d .«block_size» * 8) length
 
 -- a T10-DIF domain's blocks are no shorter than their fields: what answer 1 leaves, as far as a stream's length depends on it
 abbrev pub Sized : Domain → Type 0

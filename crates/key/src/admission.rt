@@ -56,15 +56,15 @@ fn past(l: Layout, d: Domain, offset: LayoutOffset, data_length: u64) -> bool
     total - stream < offset.number()
 }
 
-// 14, 8, 9, 10.
-pub fn admit(key: Key, memory: &[u8], offset: LayoutOffset, data_length: u64) -> Outcome
+// 14, 8, 9, 10, on a memory of so many bytes.
+pub fn admit(key: Key, memory_length: u64, offset: LayoutOffset, data_length: u64) -> Outcome
     requires { ⌜ Usable key ⌝ }
-    ensures { λ r. ⌜ r ≡ admitting.openAnswer key (length (now (memory .entry))) (offset .0) «data_length» ⌝ }
+    ensures { λ r. ⌜ r ≡ admitting.openAnswer key «memory_length» (offset .0) «data_length» ⌝ }
 {
     if !key.configured {
         return Outcome::Refused(Refusal::NotConfigured);
     }
-    if memory.len() as u64 != key.memory_length {
+    if memory_length != key.memory_length {
         return Outcome::Refused(Refusal::MemoryLength);
     }
     let signature = key.signature;
@@ -88,7 +88,7 @@ pub fn admit_transfer(
     requires { ⌜ Usable key ⌝ }
     ensures { λ r. ⌜ r ≡ admitting.transferAnswer key (length (now (memory .entry))) (offset .0) «data_length» (length (now (wire .entry))) ⌝ }
 {
-    let outcome = admit(key, memory, offset, data_length);
+    let outcome = admit(key, memory.len() as u64, offset, data_length);
     match outcome {
         Outcome::Done => {
             let signature = key.signature;

@@ -4,6 +4,7 @@ mod configuring;
 mod numbers;
 mod recording;
 mod signing;
+mod using;
 
 pub use admission::admit;
 pub use admission::admit_transfer;
@@ -11,9 +12,11 @@ pub use admission::stream_length;
 pub use configuring::configure;
 pub use numbers::number;
 pub use recording::check;
+pub use recording::error_type;
 pub use recording::keep;
 pub use recording::record;
 pub use signing::signature_answer;
+pub use using::usable;
 ghost use mathlib.Core.Path.{_≡_};
 ghost use Rattle.key.specs.Keys.{freshKey};
 use field::Domain;
@@ -112,15 +115,7 @@ pub struct Checked {
 pub fn fresh() -> Key
     ensures { λ r. ⌜ r ≡ freshKey ⌝ }
 {
-    let none = Domain {
-        kind: 0,
-        block_size: 0,
-        guard_type: 0,
-        reference_tag: 0,
-        seed: 0,
-        application_tag: 0,
-        flags: 0,
-    };
+    let none = field::unsigned();
     let entry = Entry {
         start: MemoryOffset::new(0),
         count: 0,

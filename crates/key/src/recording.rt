@@ -7,7 +7,7 @@ use crate::Slot;
 use field::Part;
 
 // 01's error types, which don't follow the order of the fields.
-fn error_type(part: Part) -> u32
+pub fn error_type(part: Part) -> u32
     ensures { λ r. ⌜ r ≡ keys.errorType part ⌝ }
 {
     match part {

@@ -1,6 +1,6 @@
 -- Laws on answers 5, 6 and 7, and what they leave of a layout that is sound.
 use mathlib.Core.Path.{_≡_, refl, ap, sym, _∙_}
-use mathlib.Core.Bool.{Bool, true, false, not}
+use mathlib.Core.Bool.{Bool, true, false, not, _||_, cond}
 use mathlib.Core.List.{List, [], _∷_, _++_, map}
 use Prim.Native.Nat.{ℕ, zero, suc, _+_, _*_, _-_, _/_, _%_, _^_, _<_, _≤_, min, max}
 use native.Mathlib.Nat.{zero-add, zero-mul, suc-mul, mul-comm, mul-le-mul, mul-le-mul-right, mod-lt, div-add-mod', div-lt-iff-lt-mul}
@@ -16,15 +16,15 @@ use Rattle.layout.specs.declared.answer.Verdict.the-variants.{Sound, Mal
 use Rattle.layout.specs.declared.answer.Extent.{Extent}
 use Rattle.layout.specs.Pieces.{Piece, end, piece, inUse, repeats, pieces, total, from, placesOf, places}
 use Rattle.layout.specs.Moves.{Within, Placed, Distinct, Below}
-use Rattle.layout.specs.Answers.{or, someCountZero, malformed, someBeyond, share, sharesWith, someShare, pickVerdict, verdictOn, fits}
+use Rattle.layout.specs.Answers.{someCountZero, malformed, someBeyond, share, sharesWith, someShare, verdictOn, fits}
 use Rattle.layout.specs.Steps.{none, Shaped, Fits, Spans, nowhere}
 use Rattle.layout.proofs.PieceLaws.{length-from, getD-from}
 
-or-true : (a : Bool) → or a true ≡ true
+or-true : (a : Bool) → a || true ≡ true
 or-true true = refl
 or-true false = refl
 
-or-false : (a b : Bool) → or a b ≡ false → (a ≡ false) × (b ≡ false)
+or-false : (a b : Bool) → a || b ≡ false → (a ≡ false) × (b ≡ false)
 or-false true b h = let z : _≡_ {A = ℕ} 0 1 = cc in absurd (omega arith)
 or-false false b h = (refl, h)
 
@@ -76,15 +76,15 @@ less-start n s a c h = go (ltb (n - s) (a + c)) refl
 pub extent-fits : (r c s : ℕ) → r < 1024 → c < 2 ^ 32 → s < 2 ^ 32 → r * (c + s) + c < 2 ^ 64
 extent-fits r c s hr hc hs = omega (arith, mul-le-mul {n₁ = r} {m₁ = c + s} {n₂ = 1023} {m₂ = 8589934590} (omega arith) (omega arith))
 
-pub beyond-append : (n : ℕ) (ps qs : List Piece) → someBeyond n (ps ++ qs) ≡ or (someBeyond n ps) (someBeyond n qs)
+pub beyond-append : (n : ℕ) (ps qs : List Piece) → someBeyond n (ps ++ qs) ≡ someBeyond n ps || someBeyond n qs
 unfolding someBeyond
 beyond-append n [] qs = refl
 beyond-append n (p ∷ ps) qs = go (ltb n (end p)) (beyond-append n ps qs)
   where
     go :
         (b : Bool)
-        → someBeyond n (ps ++ qs) ≡ or (someBeyond n ps) (someBeyond n qs)
-        → or b (someBeyond n (ps ++ qs)) ≡ or (or b (someBeyond n ps)) (someBeyond n qs)
+        → someBeyond n (ps ++ qs) ≡ someBeyond n ps || someBeyond n qs
+        → b || someBeyond n (ps ++ qs) ≡ (b || someBeyond n ps) || someBeyond n qs
     go true e = refl
     go false e = e
 
@@ -100,9 +100,9 @@ beyond-later n r k (e ∷ es) h t = go (ltb n (end (piece r e))) refl t (λ t. b
     go :
         (b : Bool)
         → ltb n (end (piece r e)) ≡ b
-        → or b (someBeyond n (map (piece r) es)) ≡ true
+        → b || someBeyond n (map (piece r) es) ≡ true
         → (someBeyond n (map (piece r) es) ≡ true → someBeyond n (map (piece k) es) ≡ true)
-        → or (ltb n (end (piece k e))) (someBeyond n (map (piece k) es)) ≡ true
+        → ltb n (end (piece k e)) || someBeyond n (map (piece k) es) ≡ true
     go true b t f = rw (lt-ltb n (end (piece k e)) (omega (arith, ltb-true n (end (piece r e)) b, end-later r k e h)))
     go false b t f = rw (f t) (or-true (ltb n (end (piece k e))))
 
@@ -111,11 +111,11 @@ pub beyond-last : (n : ℕ) (es : List Entry) (r m : ℕ) → someBeyond n (repe
 unfolding repeats someBeyond
 beyond-last n es r m = rw add-one (go r m)
   where
-    both : (a b : Bool) → (a ≡ true → b ≡ true) → or a b ≡ b
+    both : (a b : Bool) → (a ≡ true → b ≡ true) → a || b ≡ b
     both true b f = sym (f refl)
     both false b f = refl
 
-    none-more : (a : Bool) → or a false ≡ a
+    none-more : (a : Bool) → a || false ≡ a
     none-more true = refl
     none-more false = refl
 
@@ -126,7 +126,7 @@ beyond-last n es r m = rw add-one (go r m)
     go r (suc m) =
         let f : r + suc m ≡ suc r + m = omega arith in
         rw f
-        (beyond-append n (map (piece r) es) (repeats es (suc r) (suc m)) ∙ ap (λ (b : Bool). or (someBeyond n (map (piece r) es)) b) (go (suc r) m)
+        (beyond-append n (map (piece r) es) (repeats es (suc r) (suc m)) ∙ ap (λ (b : Bool). someBeyond n (map (piece r) es) || b) (go (suc r) m)
         ∙ both (someBeyond n (map (piece r) es)) (someBeyond n (map (piece (suc r + m)) es)) (λ t. beyond-later n r (suc r + m) es (omega arith) t))
 
 -- so does it for a layout
@@ -265,21 +265,21 @@ pub meet-share :
 meet-share l k j p q b s t e = sym (rw (s .start, s .end, t .start, t .end) at e)
 
 -- a turn of the inner loop
-with-next : (p : Piece) (ps : List Piece) (j : ℕ) → j < length ps → sharesWith p (drop j ps) ≡ or (share p (getD ps j nowhere)) (sharesWith p (drop (j + 1) ps))
+with-next : (p : Piece) (ps : List Piece) (j : ℕ) → j < length ps → sharesWith p (drop j ps) ≡ share p (getD ps j nowhere) || sharesWith p (drop (j + 1) ps)
 unfolding sharesWith
 with-next p ps j h = rw add-one (go ps j h)
   where
-    go : (ps : List Piece) (j : ℕ) → j < length ps → sharesWith p (drop j ps) ≡ or (share p (getD ps j nowhere)) (sharesWith p (drop (suc j) ps))
+    go : (ps : List Piece) (j : ℕ) → j < length ps → sharesWith p (drop j ps) ≡ share p (getD ps j nowhere) || sharesWith p (drop (suc j) ps)
     go [] j h = absurd (omega arith)
     go (q ∷ ps) zero h = refl
     go (q ∷ ps) (suc j) h = go ps j (omega arith)
 
 pub with-met : (p : Piece) (ps : List Piece) (j : ℕ) → j < length ps → share p (getD ps j nowhere) ≡ true → sharesWith p (drop j ps) ≡ true
-with-met p ps j h e = with-next p ps j h ∙ ap (λ (b : Bool). or b (sharesWith p (drop (j + 1) ps))) e
+with-met p ps j h e = with-next p ps j h ∙ ap (λ (b : Bool). b || sharesWith p (drop (j + 1) ps)) e
 
 pub with-passed :
     (p : Piece) (ps : List Piece) (j : ℕ) → j < length ps → share p (getD ps j nowhere) ≡ false → sharesWith p (drop j ps) ≡ sharesWith p (drop (j + 1) ps)
-with-passed p ps j h e = with-next p ps j h ∙ ap (λ (b : Bool). or b (sharesWith p (drop (j + 1) ps))) e
+with-passed p ps j h e = with-next p ps j h ∙ ap (λ (b : Bool). b || sharesWith p (drop (j + 1) ps)) e
 
 pub with-all : (p : Piece) (ps : List Piece) (j : ℕ) → length ps ≤ j → sharesWith p (drop j ps) ≡ false
 unfolding sharesWith
@@ -291,11 +291,11 @@ share-all ps k h = rw (drop-of-length-le ps {i = k} h)
 
 -- a turn of the outer loop
 pub share-next :
-    (ps : List Piece) (k : ℕ) → k < length ps → someShare (drop k ps) ≡ or (sharesWith (getD ps k nowhere) (drop (k + 1) ps)) (someShare (drop (k + 1) ps))
+    (ps : List Piece) (k : ℕ) → k < length ps → someShare (drop k ps) ≡ sharesWith (getD ps k nowhere) (drop (k + 1) ps) || someShare (drop (k + 1) ps)
 unfolding someShare
 share-next ps k h = rw add-one (go ps k h)
   where
-    go : (ps : List Piece) (k : ℕ) → k < length ps → someShare (drop k ps) ≡ or (sharesWith (getD ps k nowhere) (drop (suc k) ps)) (someShare (drop (suc k) ps))
+    go : (ps : List Piece) (k : ℕ) → k < length ps → someShare (drop k ps) ≡ sharesWith (getD ps k nowhere) (drop (suc k) ps) || someShare (drop (suc k) ps)
     go [] k h = absurd (omega arith)
     go (p ∷ ps) zero h = refl
     go (p ∷ ps) (suc k) h = go ps k (omega arith)
@@ -330,14 +330,14 @@ shaped l h =
 
 verdict-sound :
     (a b c : Bool)
-    → pickVerdict a Malformed (pickVerdict b Outside (pickVerdict c Overlapping Sound)) ≡ Sound
+    → cond a Malformed (cond b Outside (cond c Overlapping Sound)) ≡ Sound
     → (a ≡ false) × (b ≡ false) × (c ≡ false)
 verdict-sound true b c h = let z : _≡_ {A = ℕ} 0 1 = cc in absurd (omega arith)
 verdict-sound false true c h = let z : _≡_ {A = ℕ} 0 1 = cc in absurd (omega arith)
 verdict-sound false false true h = let z : _≡_ {A = ℕ} 0 1 = cc in absurd (omega arith)
 verdict-sound false false false h = (refl, refl, refl)
 
-none-of-three : (a b c : Bool) → not (or a (or b c)) ≡ true → (a ≡ false) × (b ≡ false) × (c ≡ false)
+none-of-three : (a b c : Bool) → not (a || (b || c)) ≡ true → (a ≡ false) × (b ≡ false) × (c ≡ false)
 none-of-three true b c h = let z : _≡_ {A = ℕ} 0 1 = cc in absurd (omega arith)
 none-of-three false true c h = let z : _≡_ {A = ℕ} 0 1 = cc in absurd (omega arith)
 none-of-three false false true h = let z : _≡_ {A = ℕ} 0 1 = cc in absurd (omega arith)

@@ -1,6 +1,6 @@
 -- Laws on pieces: how many bytes they have, where byte x of them lies, and the memory places of their bytes.
 use mathlib.Core.Path.{_≡_, refl, ap, sym, _∙_}
-use mathlib.Core.Bool.{Bool, true, false}
+use mathlib.Core.Bool.{Bool, true, false, cond}
 use mathlib.Core.List.{List, [], _∷_, _++_, map, append-nil}
 use Prim.Native.Nat.{ℕ, zero, suc, _+_, _*_, _-_, _^_, _<_, _≤_, min}
 use native.Mathlib.Nat.{add-zero, sub-zero, zero-add, mul-assoc, mul-comm, mul-zero, zero-mul, suc-mul, mul-le-mul-left, lt-of-mul-lt-mul-right}
@@ -15,7 +15,7 @@ use Rattle.layout.specs.declared.Layout.{Layout}
 use Rattle.layout.specs.declared.places.Spot.{Spot}
 use Rattle.layout.specs.declared.places.Position.{Position}
 use Rattle.layout.specs.Pieces.{Piece, end, piece, inUse, repeats, pieces, size, span, total, from, placesOf, places}
-use Rattle.layout.specs.Moves.{pickSpot, inPiece, spot, Within, Placed}
+use Rattle.layout.specs.Moves.{inPiece, spot, Within, Placed}
 use Rattle.layout.specs.Steps.{none, Reached, byteAt, Stands, Cut}
 
 -- ---- how many bytes
@@ -68,7 +68,7 @@ spot-in (p ∷ ps) qs x h = go (ltb x (p .count)) refl (λ h. spot-in ps qs (x -
         (b : Bool)
         → ltb x (p .count) ≡ b
         → (x - p .count < size ps → spot (ps ++ qs) (x - p .count) ≡ spot ps (x - p .count))
-        → pickSpot b (inPiece p x) (spot (ps ++ qs) (x - p .count)) ≡ pickSpot b (inPiece p x) (spot ps (x - p .count))
+        → cond b (inPiece p x) (spot (ps ++ qs) (x - p .count)) ≡ cond b (inPiece p x) (spot ps (x - p .count))
     go true e f = refl
     go false e f = f (omega (arith, ltb-false x (p .count) e))
 
@@ -270,7 +270,7 @@ spot-runs (p ∷ ps) x h = go (ltb x (p .count)) refl (λ h. spot-runs ps (x - p
         (b : Bool)
         → ltb x (p .count) ≡ b
         → (x - p .count < size ps → Runs ps (x - p .count) (spot ps (x - p .count)))
-        → Runs (p ∷ ps) x (pickSpot b (inPiece p x) (spot ps (x - p .count)))
+        → Runs (p ∷ ps) x (cond b (inPiece p x) (spot ps (x - p .count)))
     go true e f =
         let h′ : x < p .count = ltb-true x (p .count) e in
         record { some = omega arith; inside = omega arith; run = near h′ }
@@ -306,7 +306,7 @@ spot-within n (p ∷ ps) x w = go (ltb x (p .count)) refl (spot-within n ps (x -
         (b : Bool)
         → ltb x (p .count) ≡ b
         → spot ps (x - p .count) .place .0 + spot ps (x - p .count) .left ≤ n
-        → pickSpot b (inPiece p x) (spot ps (x - p .count)) .place .0 + pickSpot b (inPiece p x) (spot ps (x - p .count)) .left ≤ n
+        → cond b (inPiece p x) (spot ps (x - p .count)) .place .0 + cond b (inPiece p x) (spot ps (x - p .count)) .left ≤ n
     go true e f = omega (arith, ltb-true x (p .count) e, w .0)
     go false e f = f
 

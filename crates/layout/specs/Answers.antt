@@ -1,5 +1,5 @@
 -- Answers 5, 6 and 7 (01, "Numbered answers"): what is wrong with a layout over a memory of n bytes.
-use mathlib.Core.Bool.{Bool, true, false, not}
+use mathlib.Core.Bool.{Bool, false, not, _||_, cond}
 use mathlib.Core.List.{List, [], _∷_}
 use Prim.Native.Nat.{ℕ, _*_, min, max}
 use lib.Dec.{ltb, eqb}
@@ -9,25 +9,21 @@ use Rattle.layout.specs.declared.answer.Verdict.{Verdict}
 use Rattle.layout.specs.declared.answer.Verdict.the-variants.{Sound, Malformed, Outside, Overlapping}
 use Rattle.layout.specs.Pieces.{Piece, end, inUse, pieces, total}
 
-abbrev pub or : Bool → Bool → Bool
-or true b = true
-or false b = b
-
 -- an entry's count is 0
 unfoldable pub someCountZero : List Entry → Bool
 someCountZero [] = false
-someCountZero (e ∷ es) = or (eqb (e .count) 0) (someCountZero es)
+someCountZero (e ∷ es) = eqb (e .count) 0 || someCountZero es
 
 -- 5: entries not 1 to 16, repeat 0, a count 0, or entries × repeat above 1,024
 unfoldable pub malformed : Layout → Bool
 malformed l =
-    or (eqb (l .used) 0) (or (ltb 16 (l .used))
-    (or (eqb (l .repeat) 0) (or (someCountZero (inUse l)) (ltb 1024 (l .used * l .repeat)))))
+    eqb (l .used) 0 || (ltb 16 (l .used) ||
+    (eqb (l .repeat) 0 || (someCountZero (inUse l) || ltb 1024 (l .used * l .repeat))))
 
 -- 6: a piece ends beyond the memory of n bytes; the end is an exact sum
 unfoldable pub someBeyond : ℕ → List Piece → Bool
 someBeyond n [] = false
-someBeyond n (p ∷ ps) = or (ltb n (end p)) (someBeyond n ps)
+someBeyond n (p ∷ ps) = ltb n (end p) || someBeyond n ps
 
 -- two pieces share a byte: one that is at or past both starts and before both ends
 abbrev pub share : Piece → Piece → Bool
@@ -36,24 +32,20 @@ share p q = ltb (max (p .start) (q .start)) (min (end p) (end q))
 -- a piece shares a byte with one of these
 unfoldable pub sharesWith : Piece → List Piece → Bool
 sharesWith p [] = false
-sharesWith p (q ∷ qs) = or (share p q) (sharesWith p qs)
+sharesWith p (q ∷ qs) = share p q || sharesWith p qs
 
 -- 7: two pieces share a byte
 unfoldable pub someShare : List Piece → Bool
 someShare [] = false
-someShare (p ∷ ps) = or (sharesWith p ps) (someShare ps)
-
-abbrev pub pickVerdict : Bool → Verdict → Verdict → Verdict
-pickVerdict true a b = a
-pickVerdict false a b = b
+someShare (p ∷ ps) = sharesWith p ps || someShare ps
 
 -- 5, 6 and 7 in 01's order, each over all pieces before the next
 unfoldable pub verdictOn : Layout → ℕ → Verdict
 verdictOn l n =
-    pickVerdict (malformed l) Malformed
-    (pickVerdict (someBeyond n (pieces l)) Outside
-    (pickVerdict (someShare (pieces l)) Overlapping Sound))
+    cond (malformed l) Malformed
+    (cond (someBeyond n (pieces l)) Outside
+    (cond (someShare (pieces l)) Overlapping Sound))
 
 -- What the moves need of a layout over n bytes: neither 5 nor 6 applies, and its total is no more than n. A sound layout has it.
 unfoldable pub fits : Layout → ℕ → Bool
-fits l n = not (or (malformed l) (or (someBeyond n (pieces l)) (ltb n (total l))))
+fits l n = not (malformed l || (someBeyond n (pieces l) || ltb n (total l)))

@@ -1,6 +1,6 @@
 -- Bytes between a slice and the places of a layout, and the walk that finds those places.
 use mathlib.Core.Path.{_≡_}
-use mathlib.Core.Bool.{Bool, true, false}
+use mathlib.Core.Bool.{cond}
 use mathlib.Core.List.{List, [], _∷_, map}
 use Prim.Native.Nat.{ℕ, _+_, _-_, _≤_, _<_}
 use lib.Dec.{ltb}
@@ -19,10 +19,6 @@ scattered memory [] bytes = memory
 scattered memory (p ∷ ps) [] = memory
 scattered memory (p ∷ ps) (b ∷ bytes) = scattered (set memory p b) ps bytes
 
-abbrev pub pickSpot : Bool → Spot → Spot → Spot
-pickSpot true a b = a
-pickSpot false a b = b
-
 -- where byte x of a piece lies: its memory place, and how many bytes of the piece lie there and on
 abbrev pub inPiece : Piece → ℕ → Spot
 inPiece p x = record { place = record { 0 = p .start + x }; left = p .count - x }
@@ -30,7 +26,7 @@ inPiece p x = record { place = record { 0 = p .start + x }; left = p .count - x 
 -- where byte x of the pieces lies; past the last byte none is left
 unfoldable pub spot : List Piece → ℕ → Spot
 spot [] x = record { place = record { 0 = 0 }; left = 0 }
-spot (p ∷ ps) x = pickSpot (ltb x (p .count)) (inPiece p x) (spot ps (x - p .count))
+spot (p ∷ ps) x = cond (ltb x (p .count)) (inPiece p x) (spot ps (x - p .count))
 
 -- Every piece ends within n bytes of memory.
 unfoldable pub Within : ℕ → List Piece → Type 0

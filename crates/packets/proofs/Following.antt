@@ -19,7 +19,7 @@ use Rattle.key.specs.declared.Refusal.{Refusal}
 use Rattle.key.specs.Keys.{CameFromCalls}
 use Rattle.key.specs.Streams.{streamLength}
 use Rattle.key.specs.Admitting.{openAnswer}
-use Rattle.key.proofs.Laws.{usable, admitted, came-record}
+use Rattle.key.proofs.Laws.{came-usable, admitted, came-record}
 use Rattle.engine.specs.declared.Progress.{Progress}
 use Rattle.engine.specs.Streams.{outUnit}
 use Rattle.engine.specs.Feeding.{begun, fed, emitted}
@@ -99,11 +99,11 @@ module _ (k : Key) (atOpen : List ℕ) (start : LayoutOffset) (count : ℕ) (c :
     -- the code's tests are the rule's
     packet-ruled : (m n : ℕ) → packetAnswer (at came) m n ≡ packetRule k atOpen (start .0) count came m n
     unfolding packetAnswer at
-    packet-ruled m n = rw (taken-all (at came) (usable k c) (opened-so k atOpen start count c o) came)
+    packet-ruled m n = rw (taken-all (at came) (came-usable k c) (opened-so k atOpen start count c o) came)
 
     finish-ruled : finishAnswer (at came) ≡ finishRule k atOpen (start .0) count came
     unfolding finishAnswer at
-    finish-ruled = rw (taken-all (at came) (usable k c) (opened-so k atOpen start count c o) came)
+    finish-ruled = rw (taken-all (at came) (came-usable k c) (opened-so k atOpen start count c o) came)
 
     stands : Stands k atOpen (start .0) count came (shown came) (recorded (at came))
     unfolding at shown
@@ -112,7 +112,7 @@ module _ (k : Key) (atOpen : List ℕ) (start : LayoutOffset) (count : ℕ) (c :
     -- the key that ends the list
     ended : Ended k atOpen (start .0) count came (shown came) Done (keyOf (at came))
     unfolding at
-    ended = record { done = refl; key = refl; stands = stands; calls = came-record k _ c (admitted k (length atOpen) (start .0) count (usable k c) o .configured) }
+    ended = record { done = refl; key = refl; stands = stands; calls = came-record k _ c (admitted k (length atOpen) (start .0) count (came-usable k c) o .configured) }
 
     -- the session after an accepted packet
     session-next : (bytes : List ℕ) → further (at came) (fed (ruleOf (at came)) (at came .progress) bytes) ≡ at (came ++ bytes)
@@ -125,7 +125,7 @@ module _ (k : Key) (atOpen : List ℕ) (start : LayoutOffset) (count : ℕ) (c :
     unfolding at shown
     memory-next bytes =
         let r = receiveRule (k .signature) in
-        let w = fed-after r (begun r Empty) (session-begun (at came) (usable k c) (opened-so k atOpen start count c o)) (some-unit (at came) (usable k c) (opened-so k atOpen start count c o)) came .2 in
+        let w = fed-after r (begun r Empty) (session-begun (at came) (came-usable k c) (opened-so k atOpen start count c o)) (some-unit (at came) (came-usable k c) (opened-so k atOpen start count c o)) came .2 in
         let e : start .0 + written r (fed r (begun r Empty) came) ≡ start .0 + length (emitted r (begun r Empty) came) = omega (arith, w, zero-mul (outUnit r)) in
         rw (e, emitted-append r (begun r Empty) came bytes)
         (sym (scattered-append atOpen (drop (start .0) (places (k .layout))) (emitted r (begun r Empty) came) (emitted r (fed r (begun r Empty) came) bytes) ∙ rw (drop-drop (length (emitted r (begun r Empty) came)) (start .0) (places (k .layout)))))
@@ -146,7 +146,7 @@ module _ (k : Key) (atOpen : List ℕ) (start : LayoutOffset) (count : ℕ) (c :
           }) (shown (came ++ bytes))
       unfolding at shown
       accepted-next =
-          let t = taken-all (at came) (usable k c) (opened-so k atOpen start count c o) (came ++ bytes) in
+          let t = taken-all (at came) (came-usable k c) (opened-so k atOpen start count c o) (came ++ bytes) in
           let w = written-is k atOpen start count c o (came ++ bytes) more-bytes more-length in
           record {
             outcome = refl;
@@ -172,7 +172,7 @@ module _ (k : Key) (atOpen : List ℕ) (start : LayoutOffset) (count : ℕ) (c :
     packet-next bytes answer after d ea em eo =
         let e : packetAnswer (at came) (length (shown came)) (length bytes) ≡ Done = sym (packing-outcome (at came) (length (shown came)) bytes) ∙ (ap (λ (p : Packed). p .outcome) (sym ea) ∙ eo) in
         let told = packet-told (at came) (length (shown came)) (length bytes) e in
-        let l : length came + length bytes ≤ streamLength (k .signature .wire) count = omega (arith, told .1, taken-all (at came) (usable k c) (opened-so k atOpen start count c o) came) in
+        let l : length came + length bytes ≤ streamLength (k .signature .wire) count = omega (arith, told .1, taken-all (at came) (came-usable k c) (opened-so k atOpen start count c o) came) in
         let f : fed (receiveRule (k .signature)) (fed (receiveRule (k .signature)) (begun (receiveRule (k .signature)) Empty) came) bytes ≡ fed (receiveRule (k .signature)) (begun (receiveRule (k .signature)) Empty) (came ++ bytes) =
         sym (fed-append (receiveRule (k .signature)) (begun (receiveRule (k .signature)) Empty) came bytes) in
         let a = ea ∙ packed-done (at came) (length (shown came)) bytes e in
@@ -293,7 +293,7 @@ module _ (k : Key) (atOpen : List ℕ) (start : LayoutOffset) (count : ℕ) (c :
   unfolding at
   next-session m e bytes l =
       let s = sessionAt k atOpen start count c o came in
-      let t = taken-all s (usable k c) (opened-so k atOpen start count c o) came in
+      let t = taken-all s (came-usable k c) (opened-so k atOpen start count c o) came in
       let a : packetAnswer s m (length bytes) ≡ Done = sym (answer-0 s m (length bytes) e (length came) (streamLength (k .signature .wire) count) (sym t) refl h (omega arith)) in
       ap (λ (p : Packed). p .session) (packed-done s m bytes a) ∙ session-next k atOpen start count c o came b h bytes
 
@@ -305,7 +305,7 @@ module _ (k : Key) (atOpen : List ℕ) (start : LayoutOffset) (count : ℕ) (c :
   unfolding at shown
   next-memory now en e bytes l =
       let s = sessionAt k atOpen start count c o came in
-      let t = taken-all s (usable k c) (opened-so k atOpen start count c o) came in
+      let t = taken-all s (came-usable k c) (opened-so k atOpen start count c o) came in
       let a : packetAnswer s (length now) (length bytes) ≡ Done = sym (answer-0 s (length now) (length bytes) e (length came) (streamLength (k .signature .wire) count) (sym t) refl h (omega arith)) in
       memory-done s now bytes a ∙ rw en (memory-next k atOpen start count c o came b h bytes)
 
@@ -314,6 +314,6 @@ module _ (k : Key) (atOpen : List ℕ) (start : LayoutOffset) (count : ℕ) (c :
       → finishing (sessionAt k atOpen start count c o came) .key ≡ receiving k atOpen came (start .0) count .key
   finish-key e =
       let s = sessionAt k atOpen start count c o came in
-      let t = taken-all s (usable k c) (opened-so k atOpen start count c o) came in
+      let t = taken-all s (came-usable k c) (opened-so k atOpen start count c o) came in
       ap (λ (f : Finished). f .key) (sym (finish-done s (length came) (streamLength (k .signature .wire) count) (sym t) refl (omega arith) (keyOf s) refl))
       ∙ stands-at k atOpen start count c o came b h .whole e .1

@@ -1,13 +1,13 @@
 -- A session under way: where its engine stands, and room for a packet. Assumes nothing.
-use mathlib.Core.Path.{_≡_, refl, sym, ap, _∙_}
-use mathlib.Core.Bool.{Bool, true, false}
+use mathlib.Core.Path.{_≡_, refl, sym, _∙_}
+use mathlib.Core.Bool.{Bool, true, false, _&&_, not}
 use mathlib.Core.List.{List, [], _∷_, _++_}
-use Prim.Native.Nat.{ℕ, zero, suc, _+_, _-_, _/_, _^_, _≤_, _<_}
-use native.Mathlib.Nat.{zero-mul}
+use Prim.Native.Nat.{ℕ, zero, suc, _+_, _-_, _/_, _^_, _≤_, _<_, min}
+use native.Mathlib.Nat.{zero-mul, mul-le-mul, mul-le-mul-left}
 use native.Mathlib.Omega.{arith}
-use lib.Dec.{eqb, ltb}
+use lib.Dec.{eqb, ltb, leb}
 use lib.ListN.{length, length-append}
-use borrow.Author.Tests.{eq-eqb, ne-eqb, lt-ltb, le-ltb, eqb-true, ltb-false}
+use borrow.Author.Tests.{eq-eqb, ne-eqb, lt-ltb, le-ltb, le-leb, lt-leb, eqb-true, ltb-true, ltb-false, leb-true}
 use Rattle.guard.specs.Guards.{Bytes}
 use Rattle.layout.specs.declared.offset.LayoutOffset.{LayoutOffset}
 use Rattle.key.specs.declared.Key.{Key}
@@ -16,16 +16,17 @@ use Rattle.key.specs.declared.Outcome.the-variants.{Done, Refused}
 use Rattle.key.specs.declared.Refusal.{Refusal}
 use Rattle.key.specs.declared.Refusal.the-variants.{MemoryLength, LongPacket, BytesToCome}
 use Rattle.key.specs.Numbers.{refuse}
-use Rattle.field.specs.Tests.{not}
 use Rattle.key.specs.declared.Slot.the-variants.{Empty}
 use Rattle.key.specs.Streams.{streamLength, Measured}
 use Rattle.key.specs.Admitting.{openAnswer, Admitted}
-use Rattle.key.specs.Keys.{CameFromCalls, Usable}
-use Rattle.key.proofs.Laws.{usable, admitted, data-in-stream, came-record}
+use Rattle.key.specs.Keys.{accepts, CameFromCalls, Usable}
+use Rattle.key.proofs.Laws.{came-usable, admitted, data-in-stream, came-record}
+use Rattle.engine.specs.declared.Rule.{Rule}
 use Rattle.engine.specs.declared.Progress.{Progress}
 use Rattle.engine.specs.Streams.{inBlock, inUnit}
 use Rattle.engine.specs.Feeding.{begun, fed, emitted}
-use Rattle.engine.specs.Parts.{InStep, Room, Fed, taken, written}
+use Rattle.engine.specs.Parts.{InStep, inStep, Room, Fed, taken, written}
+use Rattle.engine.proofs.Arriving.{field-small}
 use Rattle.engine.proofs.Feeding.{fed-append}
 use Rattle.engine.proofs.FeedLaws.{begun-in-step, fed-after, fed-taken, written-within}
 use Rattle.transfer.proofs.Laws.{Ready, ready}
@@ -33,7 +34,7 @@ use Rattle.transfer.proofs.SendLaws.{stream-double}
 use Rattle.packets.specs.declared.Session.{Session}
 use Rattle.packets.specs.declared.Packed.{Packed}
 use Rattle.packets.specs.declared.Finished.{Finished}
-use Rattle.packets.specs.Sessions.{ruleOf, takenBy, wireLength, SessionFromCalls, Underway, keyOf, packetAnswer, further, packing, memoryPacked, finishAnswer, finishing, opening}
+use Rattle.packets.specs.Sessions.{ruleOf, takenBy, wireLength, SessionFromCalls, Underway, underway, keyOf, packetAnswer, further, packing, memoryPacked, finishAnswer, finishing, opening}
 
 pub bytes-append : (xs ys : List ℕ) → Bytes xs → Bytes ys → Bytes (xs ++ ys)
 bytes-append [] ys a b i = b i
@@ -54,14 +55,28 @@ module _ (s : Session) (u : Usable (s .key)) (o : openAnswer (s .key) (s .key .�
   pub some-unit : 0 < inUnit (ruleOf s)
   some-unit = omega (arith, engine-ready .matched .some)
 
+  pub wire-measured : Measured (s .key .signature .wire) (s .length)
+  wire-measured = record { sized = λ t. open-told .wire t .good .least; short = omega (arith, open-told .short) }
+
+  -- a stream is at most twice its data
+  pub wire-short : wireLength s ≤ 2 ^ 26
+  wire-short =
+      omega (
+        arith,
+        stream-double (s .key .signature .wire) (s .length) (wire-measured .sized),
+        data-in-stream (s .key .signature .memory) (s .length),
+        open-told .inside,
+        open-told .bounded .small,
+      )
+
   -- as many bytes have come as were fed from open on
   pub taken-all : (xs : List ℕ) → taken (ruleOf s) (fed (ruleOf s) (begun (ruleOf s) Empty) xs) ≡ length xs
   taken-all xs = fed-taken (ruleOf s) (begun (ruleOf s) Empty) session-begun some-unit xs ∙ omega (arith, zero-mul (inUnit (ruleOf s)))
 
 -- a session from these calls is under way
-pub underway : (s : Session) → SessionFromCalls s → Underway s
-underway s f =
-    let u = usable (s .key) (f .key) in
+pub came-underway : (s : Session) → SessionFromCalls s → Underway s
+came-underway s f =
+    let u = came-usable (s .key) (f .key) in
     let a = fed-after (ruleOf s) (begun (ruleOf s) Empty) (session-begun s u (f .opened)) (some-unit s u (f .opened)) (f .came) in
     record {
       key = u;
@@ -77,19 +92,11 @@ module _ (s : Session) (u : Underway s) where
   told : Admitted (s .key) (s .key .«memory_length») (s .start .0) (s .length)
   told = open-told s (u .key) (u .opened)
 
-  pub wire-measured : Measured (s .key .signature .wire) (s .length)
-  wire-measured = record { sized = λ t. told .wire t .good .least; short = omega (arith, told .short) }
-
   pub session-in-step : InStep (ruleOf s) (s .progress) × (s .progress .input .at < inUnit (ruleOf s))
   session-in-step = (
     record { matched = engine-ready s (u .key) (u .opened) .matched; index = u .index; at = u .at; within = omega (arith, u .within); eight = u .eight },
     u .within,
   )
-
-  -- a stream is at most twice its data
-  pub wire-short : wireLength s ≤ 2 ^ 40
-  wire-short =
-      omega (arith, stream-double (s .key .signature .wire) (s .length) (wire-measured .sized), data-in-stream (s .key .signature .memory) (s .length), told .inside, told .bounded .small)
 
   -- ---- an accepted packet
 
@@ -107,7 +114,7 @@ module _ (s : Session) (u : Underway s) where
         rw (R .output) (written-within (ruleOf s) (fed (ruleOf s) (s .progress) bytes) (after .0) (after .1) (s .length / inBlock (ruleOf s)) (omega (arith, all-taken, R .input)))
 
     pub packet-taken : taken (ruleOf s) (fed (ruleOf s) (s .progress) bytes) ≤ 2 ^ 40
-    packet-taken = omega (arith, all-taken, wire-short)
+    packet-taken = omega (arith, all-taken, wire-short s (u .key) (u .opened))
 
     pub packet-written : written (ruleOf s) (fed (ruleOf s) (s .progress) bytes) ≤ 2 ^ 40
     packet-written = omega (arith, written-fits, told .inside, told .bounded .small)
@@ -115,6 +122,72 @@ module _ (s : Session) (u : Underway s) where
     pub packet-room : (memory : ℕ) → memory ≡ s .key .«memory_length»
         → Room (ruleOf s) (s .progress) (s .key .layout) memory (s .start .0) (length (emitted (ruleOf s) (s .progress) bytes))
     packet-room memory e = record { placed = rw e (told .placed); fits = omega (arith, after .2, written-fits, told .inside); small = omega (arith, told .bounded .small) }
+
+-- ---- a session of any making
+
+in-step-told : (r : Rule) (p : Progress) → inStep r p ≡ true
+    → (p .output .index ≡ p .input .index) × (p .output .at ≡ min (p .input .at) (inBlock r)) × (p .input .at < inUnit r)
+unfolding inStep
+in-step-told r p h = go (eqb (p .output .index) (p .input .index)) (eqb (p .output .at) (min (p .input .at) (inBlock r))) (ltb (p .input .at) (inUnit r)) refl refl refl h
+  where
+    go : (a b c : Bool) → eqb (p .output .index) (p .input .index) ≡ a → eqb (p .output .at) (min (p .input .at) (inBlock r)) ≡ b → ltb (p .input .at) (inUnit r) ≡ c → a && (b && c) ≡ true
+        → (p .output .index ≡ p .input .index) × (p .output .at ≡ min (p .input .at) (inBlock r)) × (p .input .at < inUnit r)
+    go true true true x y z t = (eqb-true (p .output .index) (p .input .index) x, eqb-true (p .output .at) (min (p .input .at) (inBlock r)) y, ltb-true (p .input .at) (inUnit r) z)
+    go true true false x y z t = let n : _≡_ {A = ℕ} 0 1 = cc in absurd (omega arith)
+    go true false c x y z t = let n : _≡_ {A = ℕ} 0 1 = cc in absurd (omega arith)
+    go false b c x y z t = let n : _≡_ {A = ℕ} 0 1 = cc in absurd (omega arith)
+
+module _ (s : Session) (u : Usable (s .key)) where
+  -- the premise is what the test finds
+  pub underway-told : underway s ≡ true → length (s .progress .held) ≡ 8 → Underway s
+  unfolding underway
+  underway-told h e = go (openAnswer (s .key) (s .key .«memory_length») (s .start .0) (s .length)) (inStep (ruleOf s) (s .progress)) (leb (takenBy s) (wireLength s)) refl refl refl h
+    where
+      go : (o : Outcome) (b c : Bool) → openAnswer (s .key) (s .key .«memory_length») (s .start .0) (s .length) ≡ o → inStep (ruleOf s) (s .progress) ≡ b → leb (takenBy s) (wireLength s) ≡ c
+          → accepts o && (b && c) ≡ true → Underway s
+      go Done true true x y z t =
+          let i = in-step-told (ruleOf s) (s .progress) y in
+          record { key = u; opened = x; index = i .0; at = i .1; within = i .2; eight = e; fits = leb-true (takenBy s) (wireLength s) z }
+      go Done true false x y z t = let n : _≡_ {A = ℕ} 0 1 = cc in absurd (omega arith)
+      go Done false c x y z t = let n : _≡_ {A = ℕ} 0 1 = cc in absurd (omega arith)
+      go (Refused r) b c x y z t = let n : _≡_ {A = ℕ} 0 1 = cc in absurd (omega arith)
+
+  -- the test as the code makes it
+  module _ (o : Outcome) (e : o ≡ openAnswer (s .key) (s .key .«memory_length») (s .start .0) (s .length)) where
+    pub not-opened : (r : Refusal) → o ≡ Refused r → false ≡ underway s
+    unfolding underway
+    not-opened r d = rw (← e, d) refl
+
+    module _ (d : o ≡ Done) where
+      pub out-of-step : inStep (ruleOf s) (s .progress) ≡ false → false ≡ underway s
+      unfolding underway
+      out-of-step h = rw (← e, d, h) refl
+
+      module _ (h : inStep (ruleOf s) (s .progress) ≡ true) (w : ℕ) (l : w ≡ wireLength s) where
+        some : 1 ≤ inUnit (ruleOf s)
+        some = some-unit s u (sym e ∙ d)
+
+        pub too-far : w < s .progress .input .index → false ≡ underway s
+        unfolding underway
+        too-far n = rw (← e, d, h, lt-leb (takenBy s) (wireLength s) (omega (arith, l, mul-le-mul-left (s .progress .input .index) some))) refl
+
+        pub countable : s .progress .input .index ≤ w → taken (ruleOf s) (s .progress) ≤ 2 ^ 40
+        countable n =
+            let i = in-step-told (ruleOf s) (s .progress) h in
+            let R = engine-ready s u (sym e ∙ d) .matched in
+            let m : inUnit (ruleOf s) ≤ 4168 = omega (arith, R .most, field-small (ruleOf s .input)) in
+            let q : s .progress .input .index ≤ 2 ^ 27 = omega (arith, n, l, wire-short s u (sym e ∙ d)) in
+            omega (arith, i .2, m, mul-le-mul {n₁ = s .progress .input .index} {m₁ = inUnit (ruleOf s)} {n₂ = 2 ^ 27} {m₂ = 4168} q m)
+
+        pub counted : (t : ℕ) → t ≡ takenBy s → leb t w ≡ underway s
+        unfolding underway
+        counted t z = rw (← e, d, h, l, z) refl
+
+-- a session under way passes it
+pub underway-passes : (s : Session) → Underway s → underway s ≡ true
+unfolding underway inStep
+underway-passes s f =
+    rw (f .opened, eq-eqb _ _ (f .index), eq-eqb _ _ (f .at), lt-ltb _ _ (f .within), le-leb _ _ (f .fits)) refl
 
 -- ---- answers as the code finds them
 
@@ -177,7 +250,7 @@ pub came-opened : (k : Key) (n : ℕ) (start : LayoutOffset) (count : ℕ) → C
 unfolding fed
 came-opened k n start count c o = record {
   key = c;
-  opened = rw (admitted k n (start .0) count (usable k c) o .lent) at o;
+  opened = rw (admitted k n (start .0) count (came-usable k c) o .lent) at o;
   came = [];
   bytes = λ i. omega arith;
   fits = omega arith;
@@ -190,7 +263,7 @@ came-packed s f m bytes b = go (packetAnswer s m (length bytes)) refl
   where
     go : (o : Outcome) → packetAnswer s m (length bytes) ≡ o → SessionFromCalls (packing s m bytes .session)
     go Done e =
-        let t : takenBy s ≡ length (f .came) = rw (f .progress) (taken-all s (usable (s .key) (f .key)) (f .opened) (f .came)) in
+        let t : takenBy s ≡ length (f .came) = rw (f .progress) (taken-all s (came-usable (s .key) (f .key)) (f .opened) (f .came)) in
         rw e (record {
           key = f .key;
           opened = f .opened;
@@ -202,4 +275,4 @@ came-packed s f m bytes b = go (packetAnswer s m (length bytes)) refl
     go (Refused r) e = rw e f
 
 pub came-ended : (s : Session) → SessionFromCalls s → CameFromCalls (keyOf s)
-came-ended s f = came-record (s .key) _ (f .key) (open-told s (usable (s .key) (f .key)) (f .opened) .configured)
+came-ended s f = came-record (s .key) _ (f .key) (open-told s (came-usable (s .key) (f .key)) (f .opened) .configured)

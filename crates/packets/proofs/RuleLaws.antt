@@ -19,7 +19,7 @@ use Rattle.key.specs.declared.Outcome.the-variants.{Done}
 use Rattle.key.specs.Keys.{keep, withSlot, CameFromCalls}
 use Rattle.key.specs.Streams.{streamLength}
 use Rattle.key.specs.Admitting.{openAnswer, transferAnswer}
-use Rattle.key.proofs.Laws.{usable, admitted}
+use Rattle.key.proofs.Laws.{came-usable, admitted}
 use Rattle.engine.specs.Streams.{inBlock, inUnit, outUnit}
 use Rattle.engine.specs.Transfers.{firstError}
 use Rattle.engine.specs.Feeding.{begun, fed, emitted}
@@ -47,7 +47,7 @@ module _ (k : Key) (atOpen : List ℕ) (start : LayoutOffset) (count : ℕ) (c :
   sessionAt came = record { key = k; start = start; length = count; progress = fed (receiveRule (k .signature)) (begun (receiveRule (k .signature)) Empty) came }
 
   pub lent-length : length atOpen ≡ k .«memory_length»
-  lent-length = admitted k (length atOpen) (start .0) count (usable k c) o .lent
+  lent-length = admitted k (length atOpen) (start .0) count (came-usable k c) o .lent
 
   pub opened-so : openAnswer k (k .«memory_length») (start .0) count ≡ Done
   opened-so = rw lent-length at o
@@ -57,18 +57,18 @@ module _ (k : Key) (atOpen : List ℕ) (start : LayoutOffset) (count : ℕ) (c :
     session-at = record { key = c; opened = opened-so; came = came; bytes = b; fits = h; progress = refl }
 
     R : Reached (receiveRule (k .signature)) Empty came (sessionAt came .progress) (emitted (receiveRule (k .signature)) (begun (receiveRule (k .signature)) Empty) came)
-    R = reached-after (receiveRule (k .signature)) (engine-ready (sessionAt came) (usable k c) opened-so .matched) Empty came b .0
+    R = reached-after (receiveRule (k .signature)) (engine-ready (sessionAt came) (came-usable k c) opened-so .matched) Empty came b .0
 
     begun-unit : sessionAt came .progress .input .at < inUnit (receiveRule (k .signature))
-    begun-unit = reached-after (receiveRule (k .signature)) (engine-ready (sessionAt came) (usable k c) opened-so .matched) Empty came b .1
+    begun-unit = reached-after (receiveRule (k .signature)) (engine-ready (sessionAt came) (came-usable k c) opened-so .matched) Empty came b .1
 
     counted : sessionAt came .progress .input .index * inUnit (receiveRule (k .signature)) + sessionAt came .progress .input .at ≡ length came
-    counted = taken-all (sessionAt came) (usable k c) opened-so came
+    counted = taken-all (sessionAt came) (came-usable k c) opened-so came
 
     units : sessionAt came .progress .input .index ≡ length came / inUnit (receiveRule (k .signature))
     units =
         one-way _ _ (inUnit (receiveRule (k .signature))) _ (length came % inUnit (receiveRule (k .signature)))
-        (counted ∙ sym (div-add-mod' (length came) (inUnit (receiveRule (k .signature))))) begun-unit (mod-lt (length came) (some-unit (sessionAt came) (usable k c) opened-so))
+        (counted ∙ sym (div-add-mod' (length came) (inUnit (receiveRule (k .signature))))) begun-unit (mod-lt (length came) (some-unit (sessionAt came) (came-usable k c) opened-so))
 
     over : sessionAt came .progress .input .at ≡ length came % inUnit (receiveRule (k .signature))
     over = omega (arith, counted, div-add-mod' (length came) (inUnit (receiveRule (k .signature))), ap (λ (i : ℕ). i * inUnit (receiveRule (k .signature))) units)
@@ -81,13 +81,13 @@ module _ (k : Key) (atOpen : List ℕ) (start : LayoutOffset) (count : ℕ) (c :
     shown-length : length (emitted (receiveRule (k .signature)) (begun (receiveRule (k .signature)) Empty) came) ≡ shownAfter (receiveRule (k .signature)) (length came)
     shown-length =
         let r = receiveRule (k .signature) in
-        let w = fed-after r (begun r Empty) (session-begun (sessionAt came) (usable k c) opened-so) (some-unit (sessionAt came) (usable k c) opened-so) came .2 in
+        let w = fed-after r (begun r Empty) (session-begun (sessionAt came) (came-usable k c) opened-so) (some-unit (sessionAt came) (came-usable k c) opened-so) came .2 in
         omega (arith, w, written-is, zero-mul (outUnit r))
 
     -- what a whole stream gives
     all : (rest : List ℕ) → Bytes rest → length (came ++ rest) ≡ streamLength (k .signature .wire) count
         → Whole (receiveRule (k .signature)) (came ++ rest) count (streamLength (k .signature .memory) count)
-    all rest d e = whole (receiveRule (k .signature)) count _ _ (engine-ready (sessionAt came) (usable k c) opened-so) (came ++ rest) (bytes-append came rest b d) e
+    all rest d e = whole (receiveRule (k .signature)) count _ _ (engine-ready (sessionAt came) (came-usable k c) opened-so) (came ++ rest) (bytes-append came rest b d) e
 
     -- the rule's output begins with what was shown
     shown-is : (rest : List ℕ) → Bytes rest → length (came ++ rest) ≡ streamLength (k .signature .wire) count

@@ -1,12 +1,11 @@
 -- 01's packet rule, over the transfer rule alone: what memory and recorded error are after some wire bytes, and what a list of calls answers.
 use mathlib.Core.Path.{_≡_}
-use mathlib.Core.Bool.{Bool}
+use mathlib.Core.Bool.{not}
 use mathlib.Core.List.{List, [], _∷_, _++_}
-use Prim.Native.Nat.{ℕ, zero, _+_, _*_, _/_, _%_, min}
+use Prim.Native.Nat.{ℕ, _+_, _*_, _/_, _%_, min}
 use lib.Dec.{eqb, ltb}
 use lib.ListN.{length, take, drop}
 use Rattle.guard.specs.Guards.{Bytes}
-use Rattle.field.specs.Tests.{not}
 use Rattle.layout.specs.Pieces.{places}
 use Rattle.layout.specs.Moves.{scattered}
 use Rattle.key.specs.declared.Key.{Key}

@@ -1,12 +1,11 @@
 -- Open, packet, finish and abandon for all input, over a session's own numbers (01, "Packets" and "Numbered answers").
 use mathlib.Core.Path.{_≡_}
-use mathlib.Core.Bool.{Bool}
-use mathlib.Core.List.{List, []}
+use mathlib.Core.Bool.{Bool, _&&_, not}
+use mathlib.Core.List.{List}
 use Prim.Native.Nat.{ℕ, zero, _+_, _≤_, _<_, min}
-use lib.Dec.{eqb, ltb}
+use lib.Dec.{eqb, ltb, leb}
 use lib.ListN.{length, drop}
 use Rattle.guard.specs.Guards.{Bytes}
-use Rattle.field.specs.Tests.{not}
 use Rattle.layout.specs.declared.offset.LayoutOffset.{LayoutOffset}
 use Rattle.layout.specs.Pieces.{places}
 use Rattle.layout.specs.Moves.{scattered}
@@ -17,14 +16,14 @@ use Rattle.key.specs.declared.Outcome.{Outcome}
 use Rattle.key.specs.declared.Outcome.the-variants.{Done, Refused}
 use Rattle.key.specs.declared.Refusal.the-variants.{MemoryLength, LongPacket, BytesToCome}
 use Rattle.key.specs.Numbers.{refuse}
-use Rattle.key.specs.Keys.{keep, withSlot, CameFromCalls, Usable}
+use Rattle.key.specs.Keys.{keep, withSlot, accepts, CameFromCalls, Usable}
 use Rattle.key.specs.Streams.{streamLength}
 use Rattle.key.specs.Admitting.{openAnswer}
 use Rattle.engine.specs.declared.Rule.{Rule}
 use Rattle.engine.specs.declared.Progress.{Progress}
 use Rattle.engine.specs.Streams.{inBlock, inUnit}
 use Rattle.engine.specs.Feeding.{begun, fed, emitted}
-use Rattle.engine.specs.Parts.{taken, written}
+use Rattle.engine.specs.Parts.{inStep, taken, written}
 use Rattle.transfer.specs.Rules.{receiveRule}
 use Rattle.transfer.specs.Transferring.{becomes}
 use Rattle.packets.specs.declared.Session.{Session}
@@ -81,6 +80,12 @@ pub record Underway (s : Session) : Type 0 where
   pub within : s .progress .input .at < inUnit (ruleOf s)
   pub eight : length (s .progress .held) ≡ 8
   pub fits : takenBy s ≤ wireLength s
+
+-- the same as a test, of a session of any making whose key is usable
+unfoldable pub underway : Session → Bool
+underway s =
+    accepts (openAnswer (s .key) (s .key .«memory_length») (s .start .0) (s .length)) &&
+    (inStep (ruleOf s) (s .progress) && leb (takenBy s) (wireLength s))
 
 -- ---- packet
 

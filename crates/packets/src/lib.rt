@@ -2,6 +2,7 @@
 mod ending;
 mod opening;
 mod packing;
+mod resuming;
 
 pub use ending::abandon;
 pub use ending::finish;
@@ -11,6 +12,8 @@ use key::Outcome;
 use layout::LayoutOffset;
 pub use opening::open;
 pub use packing::packet;
+pub use resuming::eight;
+pub use resuming::under_way;
 
 // A received transfer under way: what open was given, and how far it is.
 pub struct Session {

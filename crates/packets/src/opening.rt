@@ -14,7 +14,7 @@ pub fn open(key: Key, memory: &[u8], offset: LayoutOffset, data_length: u64) -> 
     requires { ⌜ Usable key ⌝ }
     ensures { λ r. ⌜ r ≡ sessions.opening key (length (now (memory .entry))) offset «data_length» ⌝ }
 {
-    let outcome = key::admit(key, memory, offset, data_length);
+    let outcome = key::admit(key, memory.len() as u64, offset, data_length);
     let progress = engine::begin(transfer::receive_rule(key.signature), Slot::Empty);
     let session = Session {
         key,

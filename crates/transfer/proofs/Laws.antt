@@ -9,7 +9,6 @@ use lib.ListN.{length}
 use lib.Seq.{length-take-le}
 use Rattle.guard.specs.Guards.{Bytes}
 use Rattle.field.specs.declared.Domain.{Domain}
-use Rattle.field.specs.Tests.{and}
 use Rattle.field.specs.Domains.{signed}
 use Rattle.key.specs.declared.Slot.{Slot}
 use Rattle.key.specs.declared.Slot.the-variants.{Empty}
@@ -21,7 +20,6 @@ use Rattle.key.specs.declared.Outcome.the-variants.{Done, Refused}
 use Rattle.key.specs.Keys.{keep, withSlot, Usable}
 use Rattle.key.specs.Admitting.{Blocks, Admitted, transferAnswer}
 use Rattle.key.proofs.Laws.{admitted, transfer-admitted}
-use Rattle.layout.specs.Pieces.{total}
 use Rattle.engine.specs.declared.Rule.{Rule}
 use Rattle.engine.specs.Streams.{blockSize, fieldSize, unitSize, inBlock, inUnit, outBlock, outUnit}
 use Rattle.engine.specs.Feeding.{fed, emitted, begun}

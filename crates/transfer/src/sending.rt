@@ -1,7 +1,7 @@
 // Send.
 ghost use mathlib.Core.Path.{_≡_};
-ghost use Prim.Native.Nat.{_+_, _≤_, _<_, _^_, min};
-ghost use lib.ListN.{length, take, drop};
+ghost use Prim.Native.Nat.{_+_, _<_, _^_, min};
+ghost use lib.ListN.{length};
 ghost use Rattle.key.specs.Keys.{Usable};
 ghost use Rattle.transfer.specs.Transferring as transferring;
 ghost use Rattle.transfer.specs.Sending.{onePiece, Drawable, Drawn};

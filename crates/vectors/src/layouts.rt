@@ -1,5 +1,4 @@
 // Answers 5, 6 and 7, and where layout bytes lie.
-ghost use mathlib.Core.Path.{_≡_};
 ghost use Rattle.vectors.specs.Needed.{Located};
 use crate::lines;
 use layout::Entry;
@@ -46,8 +45,7 @@ fn one(start: u64, count: u32) -> Layout {
     made(entry(start, count, 0), entry(0, 0, 0), 1, 1)
 }
 
-fn answer(l: Layout, memory_length: u64) -> u64
-{
+fn answer(l: Layout, memory_length: u64) -> u64 {
     match layout::judge(l, memory_length) {
         Verdict::Sound => 0,
         Verdict::Malformed => 5,

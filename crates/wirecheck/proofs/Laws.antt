@@ -1,6 +1,6 @@
 -- The small program's key, and a wire received packet by packet: what demand 3 says of it. Assumes nothing.
 use mathlib.Core.Path.{_≡_, refl, sym, ap, _∙_}
-use mathlib.Core.Bool.{Bool, true, false}
+use mathlib.Core.Bool.{Bool, true, false, _||_, not}
 use mathlib.Core.List.{List, [], _++_, append-assoc, append-nil}
 use Prim.Native.Nat.{ℕ, _+_, _-_, _/_, _%_, _≤_}
 use native.Mathlib.Omega.{arith}
@@ -8,7 +8,6 @@ use lib.Dec.{eqb, ltb}
 use lib.ListN.{length, take, drop, length-append, length-take, take-append-drop}
 use borrow.Author.Tests.{eq-eqb, le-ltb, eqb-true, ltb-false}
 use Rattle.guard.specs.Guards.{Bytes}
-use Rattle.field.specs.Tests.{or, not}
 use Rattle.layout.specs.Pieces.{total, places}
 use Rattle.layout.proofs.MoveLaws.{scattered-none}
 use Rattle.layout.proofs.PieceLaws.{one-total}
@@ -24,14 +23,14 @@ use Rattle.key.specs.Keys.{freshKey, configuredKey, configuring, configuredBy, 
 use Rattle.key.specs.Configuring.{configureAnswer}
 use Rattle.key.specs.Streams.{streamLength}
 use Rattle.key.specs.Admitting.{openAnswer}
-use Rattle.key.proofs.Laws.{came-fresh, came-configuring, usable}
+use Rattle.key.proofs.Laws.{came-fresh, came-configuring, came-usable}
 use Rattle.engine.specs.Feeding.{fed, emitted}
 use Rattle.engine.proofs.Feeding.{bytes-first, nothing}
 use Rattle.transfer.specs.Transferring.{receiving, memoryReceived}
 use Rattle.packets.specs.declared.Session.{Session}
 use Rattle.packets.specs.declared.Opened.{Opened}
 use Rattle.packets.specs.Sessions.{packing, memoryPacked, finishing, opening, Underway}
-use Rattle.packets.proofs.PacketLaws.{underway}
+use Rattle.packets.proofs.PacketLaws.{came-underway}
 use Rattle.packets.proofs.RuleLaws.{session-at, stands-at}
 use Rattle.packets.proofs.Following.{next-session, next-memory, finish-key}
 use Rattle.wirecheck.specs.declared.Answer.the-variants as answer
@@ -54,7 +53,7 @@ module _ (k : Key) (m n : ℕ) (R : Receivable k m n) where
 
   -- the key meets the calls' premise
   pub key-usable : Usable k
-  key-usable = usable k came
+  key-usable = came-usable k came
 
   pub signed-so : k .signature ≡ signatureA
   signed-so = ap (λ (x : Key). x .signature) key-is
@@ -97,7 +96,7 @@ module _ (k : Key) (memory wire : List ℕ) (R : Receivable k (length memory) (l
     -- the session meets the calls' premise
     pub along-session : Underway s
     along-session =
-        rw (A .session) (underway _ (session-at k memory (record { 0 = 0 }) (length wire / 2) (came k _ _ R) (open-done k _ _ R) (A .came) bytes-came short))
+        rw (A .session) (came-underway _ (session-at k memory (record { 0 = 0 }) (length wire / 2) (came k _ _ R) (open-done k _ _ R) (A .came) bytes-came short))
 
     more : (n : ℕ) → length (A .came) + length (take n rest) ≤ streamLength (k .signature .wire) (length wire / 2)
     more n = rw (wire-length k (length memory) (length wire) R) (omega (arith, fits, length-take n rest))
@@ -138,7 +137,7 @@ module _ (k : Key) (memory wire : List ℕ) (R : Receivable k (length memory) (l
 
 -- ---- the answer
 
-none-of : (a b c : Bool) → or a (or b (not c)) ≡ false → (b ≡ false) × (c ≡ true)
+none-of : (a b c : Bool) → a || (b || not c) ≡ false → (b ≡ false) × (c ≡ true)
 none-of false false true e = (refl, refl)
 none-of false false false e = let z : _≡_ {A = ℕ} 0 1 = cc in absurd (omega arith)
 none-of false true c e = let z : _≡_ {A = ℕ} 0 1 = cc in absurd (omega arith)

@@ -1,22 +1,21 @@
 -- The small program's answer for every input (01, "The small program").
 use mathlib.Core.Path.{_≡_}
-use mathlib.Core.Bool.{Bool}
+use mathlib.Core.Bool.{Bool, _||_, not, cond}
 use mathlib.Core.List.{List, _++_}
 use Prim.Native.Nat.{ℕ, _/_, _%_, _≤_}
 use lib.Dec.{eqb, ltb}
 use lib.ListN.{length, drop, replicate}
-use Rattle.field.specs.Tests.{or, not, pick}
 use Rattle.layout.specs.Pieces.{places}
 use Rattle.layout.specs.Moves.{scattered}
 use Rattle.key.specs.declared.Key.{Key}
 use Rattle.key.specs.declared.Signature.{Signature}
 use Rattle.key.specs.declared.Configuration.{Configuration}
-use Rattle.key.specs.declared.Configured.{Configured}
 use Rattle.key.specs.declared.Checked.{Checked}
 use Rattle.key.specs.declared.Outcome.{Outcome}
 use Rattle.key.specs.declared.Outcome.the-variants.{Done, Refused}
 use Rattle.key.specs.Numbers.{refusalNumber}
-use Rattle.key.specs.Keys.{noDomain, freshKey, configuring, checking}
+use Rattle.field.specs.Domains.{noDomain}
+use Rattle.key.specs.Keys.{freshKey, configuring, checking}
 use Rattle.key.specs.declared.Slot.the-variants.{Empty}
 use Rattle.engine.specs.Feeding.{begun, fed, emitted}
 use Rattle.transfer.specs.Rules.{receiveRule}
@@ -24,7 +23,6 @@ use Rattle.transfer.specs.Transferring.{receiving, memoryReceived}
 use Rattle.packets.specs.declared.Session.{Session}
 use Rattle.wirecheck.specs.declared.Answer.{Answer}
 use Rattle.wirecheck.specs.declared.Answer.the-variants as answer
-use Rattle.wirecheck.specs.declared.Numbers.{Numbers}
 
 -- case A's wire domain, no memory signature, all check bits
 abbrev pub signatureA : Signature
@@ -60,12 +58,12 @@ answerBy (Refused r) k memory wire = answer.Refused (refusalNumber r)
 
 -- 01: input above 65,536 bytes, or not a multiple of 16, is refused with 9
 abbrev pub badInput : List ℕ → Bool → Bool
-badInput wire more = or more (or (ltb 65536 (length wire)) (not (eqb (length wire % 16) 0)))
+badInput wire more = more || (ltb 65536 (length wire) || not (eqb (length wire % 16) 0))
 
 -- Else the check answer of one receive of the whole input, from a fresh key configured over this memory (of at least 32,768 bytes; a smaller one gets configure's refusal).
 unfoldable pub checkOf : List ℕ → Bool → List ℕ → Answer
 checkOf wire more memory =
-    pick (badInput wire more) (answer.Refused 9)
+    cond (badInput wire more) (answer.Refused 9)
     (answerBy (configuring freshKey (length memory) configurationA .outcome) (configuring freshKey (length memory) configurationA .key) memory wire)
 
 -- and the memory that one receive leaves
@@ -75,7 +73,7 @@ memoryBy (Refused r) k memory wire = memory
 
 unfoldable pub memoryOf : List ℕ → Bool → List ℕ → List ℕ
 memoryOf wire more memory =
-    pick (badInput wire more) memory
+    cond (badInput wire more) memory
     (memoryBy (configuring freshKey (length memory) configurationA .outcome) (configuring freshKey (length memory) configurationA .key) memory wire)
 
 -- What receiving in packets asks: a key configured so, and a wire of whole units that fits.

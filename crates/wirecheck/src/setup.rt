@@ -12,15 +12,7 @@ fn signature() -> Signature
     ensures { λ r. ⌜ r ≡ checking.signatureA ⌝ }
 {
     Signature {
-        memory: Domain {
-            kind: 0,
-            block_size: 0,
-            guard_type: 0,
-            reference_tag: 0,
-            seed: 0,
-            application_tag: 0,
-            flags: 0,
-        },
+        memory: field::unsigned(),
         wire: Domain {
             kind: 1,
             block_size: 8,

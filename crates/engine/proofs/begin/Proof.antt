@@ -1,9 +1,6 @@
 use borrow.Author.Needs.{needs}
 use Rattle.engine.proofs.begin.Statement.{statement}
 use Rattle.engine.proofs.begin.Tie as tie
-use Rattle.engine.proofs.begin.Reads as reads
-use Rattle.engine.proofs.begin.Lts as lts
-use Rattle.engine.proofs.sides.at_block.Reads as at-block-reads
 
 at-block-requires : tie.Need-at-block-requires
 at-block-requires c κs = search needs

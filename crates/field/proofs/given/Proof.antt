@@ -2,9 +2,6 @@ use Rattle.field.specs.Fields.{given}
 use borrow.Author.Needs.{needs}
 use Rattle.field.proofs.given.Statement.{statement}
 use Rattle.field.proofs.given.Tie as tie
-use Rattle.field.proofs.given.Reads as reads
-use Rattle.field.proofs.given.Lts as lts
-use Rattle.field.proofs.reference_tag.Reads as reference-tag-reads
 
 reference-tag-requires : tie.Need-reference-tag-requires
 reference-tag-requires c κs = search needs

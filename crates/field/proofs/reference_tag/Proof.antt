@@ -4,10 +4,6 @@ use native.Mathlib.Omega.{arith}
 use borrow.Author.Needs.{needs}
 use Rattle.field.proofs.reference_tag.Statement.{statement}
 use Rattle.field.proofs.reference_tag.Tie as tie
-use Rattle.field.proofs.reference_tag.Reads as reads
-use Rattle.field.proofs.reference_tag.Lts as lts
-use Rattle.field.proofs.remaps.Reads as remaps-reads
-use Rattle.std.proofs.num.wrapping_add_u32.Reads as wrapping-add-u32-reads
 
 remaps-requires : tie.Need-remaps-requires
 remaps-requires c κs = search needs

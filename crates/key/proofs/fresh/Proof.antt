@@ -6,13 +6,16 @@ use Rattle.layout.specs.declared.offset.MemoryOffset.{MemoryOffset}
 use Rattle.key.proofs.fresh.Statement.{statement}
 use Rattle.key.proofs.fresh.Tie as tie
 
+unsigned-requires : tie.Need-unsigned-requires
+unsigned-requires c κs = search needs
+
 new-requires : tie.Need-new-requires
 new-requires c κs = search needs
 
 returns : tie.Need-returns
 returns c =
     let e : _≡_ {A = MemoryOffset} (c .new .result) (record { 0 = 0 }) = ap (λ (n : ℕ). record { 0 = n }) (c .new .ensures) in
-    rw e
+    rw (e, c .before .unsigned .ensures)
 
 pub fresh-spec : {M : Type 1} → statement M
-fresh-spec = tie.close (tie.spec new-requires returns)
+fresh-spec = tie.close (tie.spec unsigned-requires new-requires returns)

@@ -7,8 +7,6 @@ use lib.ListN.{length, drop}
 use lib.Seq.{sets}
 use Rattle.engine.proofs.parts.hold.Statement.{statement}
 use Rattle.engine.proofs.parts.hold.Tie as tie
-use Rattle.engine.proofs.parts.hold.Reads as reads
-use Rattle.engine.proofs.parts.hold.Lts as lts
 
 abbrev Inv-loop : tie.InvT-loop
 Inv-loop from part all₀ i₀ all i = (i ≤ length part) × (sets all (from + i) (drop i part) ≡ sets all₀ from part)

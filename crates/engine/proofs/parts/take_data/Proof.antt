@@ -1,11 +1,6 @@
 use borrow.Author.Needs.{needs}
 use Rattle.engine.proofs.parts.take_data.Statement.{statement}
 use Rattle.engine.proofs.parts.take_data.Tie as tie
-use Rattle.engine.proofs.parts.take_data.Reads as reads
-use Rattle.engine.proofs.parts.take_data.Lts as lts
-use Rattle.engine.proofs.sides.checks_guard.Reads as checks-guard-reads
-use Rattle.engine.proofs.sides.makes_guard.Reads as makes-guard-reads
-use Rattle.engine.proofs.sides.take.Reads as take-reads
 
 checks-guard-requires : tie.Need-checks-guard-requires
 checks-guard-requires c κs = search needs

@@ -1,10 +1,6 @@
 use borrow.Author.Needs.{needs}
 use Rattle.engine.proofs.parts.take_field.Statement.{statement}
 use Rattle.engine.proofs.parts.take_field.Tie as tie
-use Rattle.engine.proofs.parts.take_field.Reads as reads
-use Rattle.engine.proofs.parts.take_field.Lts as lts
-use Rattle.engine.proofs.parts.hold.Reads as hold-reads
-use Rattle.engine.proofs.sides.block_size.Reads as block-size-reads
 
 block-size-requires : tie.Need-block-size-requires
 block-size-requires c κs = search needs

@@ -1,9 +1,6 @@
 use borrow.Author.Needs.{needs}
 use Rattle.engine.proofs.sides.at_block.Statement.{statement}
 use Rattle.engine.proofs.sides.at_block.Tie as tie
-use Rattle.engine.proofs.sides.at_block.Reads as reads
-use Rattle.engine.proofs.sides.at_block.Lts as lts
-use Rattle.guard.proofs.start.Reads as start-reads
 
 start-requires : tie.Need-start-requires
 start-requires c κs = search needs

@@ -3,9 +3,6 @@ use mathlib.Core.Path.{sym, _∙_}
 use borrow.Author.Needs.{needs}
 use Rattle.engine.proofs.sides.makes_guard.Statement.{statement}
 use Rattle.engine.proofs.sides.makes_guard.Tie as tie
-use Rattle.engine.proofs.sides.makes_guard.Reads as reads
-use Rattle.engine.proofs.sides.makes_guard.Lts as lts
-use Rattle.field.proofs.signed.Reads as signed-reads
 
 signed-requires : tie.Need-signed-requires
 signed-requires c κs = search needs

@@ -1,9 +1,6 @@
 use borrow.Author.Needs.{needs}
 use Rattle.engine.proofs.sides.take.Statement.{statement}
 use Rattle.engine.proofs.sides.take.Tie as tie
-use Rattle.engine.proofs.sides.take.Reads as reads
-use Rattle.engine.proofs.sides.take.Lts as lts
-use Rattle.guard.proofs.advance.Reads as advance-reads
 
 add-at : tie.Need-add-at
 add-at c = search needs

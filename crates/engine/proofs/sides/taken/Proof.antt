@@ -2,9 +2,6 @@ use native.Mathlib.Omega.{arith}
 use borrow.Author.Needs.{needs}
 use Rattle.engine.proofs.sides.taken.Statement.{statement}
 use Rattle.engine.proofs.sides.taken.Tie as tie
-use Rattle.engine.proofs.sides.taken.Reads as reads
-use Rattle.engine.proofs.sides.taken.Lts as lts
-use Rattle.engine.proofs.sides.unit_size.Reads as unit-size-reads
 
 unit-size-requires : tie.Need-unit-size-requires
 unit-size-requires c κs = search needs

@@ -2,11 +2,6 @@ use mathlib.Core.Path.{sym, _∙_}
 use borrow.Author.Needs.{needs}
 use Rattle.engine.proofs.stream.feed.Statement.{statement}
 use Rattle.engine.proofs.stream.feed.Tie as tie
-use Rattle.engine.proofs.stream.feed.Reads as reads
-use Rattle.engine.proofs.stream.feed.Lts as lts
-use Rattle.engine.proofs.stream.feed_bare.Reads as feed-bare-reads
-use Rattle.engine.proofs.stream.feed_parts.Reads as feed-parts-reads
-use Rattle.field.proofs.signed.Reads as signed-reads
 
 signed-requires : tie.Need-signed-requires
 signed-requires c κs = search needs

@@ -4,12 +4,6 @@ use Rattle.engine.proofs.BareLaws.{bare-room, bare-none, bare-done}
 use borrow.Author.Needs.{needs}
 use Rattle.engine.proofs.stream.feed_bare.Statement.{statement}
 use Rattle.engine.proofs.stream.feed_bare.Tie as tie
-use Rattle.engine.proofs.stream.feed_bare.Reads as reads
-use Rattle.engine.proofs.stream.feed_bare.Lts as lts
-use Rattle.engine.proofs.sides.at_block.Reads as at-block-reads
-use Rattle.engine.proofs.sides.written.Reads as written-reads
-use Rattle.layout.proofs.scatter.Reads as scatter-reads
-use Rattle.layout.proofs.offset.LayoutOffset.ahead.Reads as ahead-reads
 
 returns : tie.Need-returns
 returns c =

@@ -7,15 +7,6 @@ use Rattle.engine.proofs.FeedLaws.{data-room, data-done, field-holds, f
 use borrow.Author.Needs.{needs}
 use Rattle.engine.proofs.stream.feed_part.Statement.{statement}
 use Rattle.engine.proofs.stream.feed_part.Tie as tie
-use Rattle.engine.proofs.stream.feed_part.Reads as reads
-use Rattle.engine.proofs.stream.feed_part.Lts as lts
-use Rattle.engine.proofs.parts.take_data.Reads as take-data-reads
-use Rattle.engine.proofs.parts.take_field.Reads as take-field-reads
-use Rattle.engine.proofs.sides.block_size.Reads as block-size-reads
-use Rattle.engine.proofs.sides.written.Reads as written-reads
-use Rattle.engine.proofs.whole.settle.Reads as settle-reads
-use Rattle.layout.proofs.scatter.Reads as scatter-reads
-use Rattle.layout.proofs.offset.LayoutOffset.ahead.Reads as ahead-reads
 
 block-size-requires : tie.Need-block-size-requires
 block-size-requires c κs = search needs

@@ -9,10 +9,6 @@ use Rattle.engine.specs.Parts.{Going}
 use Rattle.engine.proofs.FeedLaws.{going-start, part-asks, going-turn, going-end}
 use Rattle.engine.proofs.stream.feed_parts.Statement.{statement}
 use Rattle.engine.proofs.stream.feed_parts.Tie as tie
-use Rattle.engine.proofs.stream.feed_parts.Reads as reads
-use Rattle.engine.proofs.stream.feed_parts.Lts as lts
-use Rattle.engine.proofs.stream.feed_part.Reads as feed-part-reads
-use Rattle.engine.proofs.stream.part_length.Reads as part-length-reads
 
 abbrev Inv-loop : tie.InvT-loop
 Inv-loop rule l memory₀ start bytes q₀ rest₀ memory q rest = Going rule q₀ l (start .0) memory₀ bytes q memory rest

@@ -6,14 +6,6 @@ use Rattle.engine.specs.Transfers.{errorBy}
 use borrow.Author.Needs.{needs}
 use Rattle.engine.proofs.whole.error_due.Statement.{statement}
 use Rattle.engine.proofs.whole.error_due.Tie as tie
-use Rattle.engine.proofs.whole.error_due.Reads as reads
-use Rattle.engine.proofs.whole.error_due.Lts as lts
-use Rattle.engine.proofs.sides.unit_size.Reads as unit-size-reads
-use Rattle.engine.proofs.whole.found.Reads as found-reads
-use Rattle.field.proofs.decode.Reads as decode-reads
-use Rattle.field.proofs.judge.Reads as judge-reads
-use Rattle.field.proofs.signed.Reads as signed-reads
-use Rattle.guard.proofs.finish.Reads as finish-reads
 
 signed-requires : tie.Need-signed-requires
 signed-requires c κs = search needs

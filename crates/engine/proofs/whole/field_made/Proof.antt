@@ -2,13 +2,6 @@ use Rattle.engine.specs.Feeding.{fieldMade}
 use borrow.Author.Needs.{needs}
 use Rattle.engine.proofs.whole.field_made.Statement.{statement}
 use Rattle.engine.proofs.whole.field_made.Tie as tie
-use Rattle.engine.proofs.whole.field_made.Reads as reads
-use Rattle.engine.proofs.whole.field_made.Lts as lts
-use Rattle.field.proofs.decode.Reads as decode-reads
-use Rattle.field.proofs.encode.Reads as encode-reads
-use Rattle.field.proofs.given.Reads as given-reads
-use Rattle.field.proofs.output.Reads as output-reads
-use Rattle.guard.proofs.finish.Reads as finish-reads
 
 finish-requires : tie.Need-finish-requires
 finish-requires c κs = search needs

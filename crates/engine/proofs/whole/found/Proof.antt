@@ -2,8 +2,6 @@ use Rattle.engine.specs.Transfers.{slotOf}
 use borrow.Author.Needs.{needs}
 use Rattle.engine.proofs.whole.found.Statement.{statement}
 use Rattle.engine.proofs.whole.found.Tie as tie
-use Rattle.engine.proofs.whole.found.Reads as reads
-use Rattle.engine.proofs.whole.found.Lts as lts
 
 enum-told : tie.Need-enum-told
 enum-told c = search needs

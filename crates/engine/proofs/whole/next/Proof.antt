@@ -1,11 +1,6 @@
 use borrow.Author.Needs.{needs}
 use Rattle.engine.proofs.whole.next.Statement.{statement}
 use Rattle.engine.proofs.whole.next.Tie as tie
-use Rattle.engine.proofs.whole.next.Reads as reads
-use Rattle.engine.proofs.whole.next.Lts as lts
-use Rattle.engine.proofs.sides.at_block.Reads as at-block-reads
-use Rattle.engine.proofs.whole.error_due.Reads as error-due-reads
-use Rattle.key.proofs.keep.Reads as keep-reads
 
 error-due-requires : tie.Need-error-due-requires
 error-due-requires c κs = search needs

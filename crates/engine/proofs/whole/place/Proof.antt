@@ -4,13 +4,6 @@ use Rattle.layout.proofs.MoveLaws.{scattered-none}
 use borrow.Author.Needs.{needs}
 use Rattle.engine.proofs.whole.place.Statement.{statement}
 use Rattle.engine.proofs.whole.place.Tie as tie
-use Rattle.engine.proofs.whole.place.Reads as reads
-use Rattle.engine.proofs.whole.place.Lts as lts
-use Rattle.engine.proofs.sides.written.Reads as written-reads
-use Rattle.engine.proofs.whole.field_made.Reads as field-made-reads
-use Rattle.field.proofs.signed.Reads as signed-reads
-use Rattle.layout.proofs.scatter.Reads as scatter-reads
-use Rattle.layout.proofs.offset.LayoutOffset.ahead.Reads as ahead-reads
 
 signed-requires : tie.Need-signed-requires
 signed-requires c κs = search needs

@@ -3,11 +3,6 @@ use Rattle.engine.proofs.PartLaws.{settled-partial, settled-whole, room
 use borrow.Author.Needs.{needs}
 use Rattle.engine.proofs.whole.settle.Statement.{statement}
 use Rattle.engine.proofs.whole.settle.Tie as tie
-use Rattle.engine.proofs.whole.settle.Reads as reads
-use Rattle.engine.proofs.whole.settle.Lts as lts
-use Rattle.engine.proofs.sides.unit_size.Reads as unit-size-reads
-use Rattle.engine.proofs.whole.next.Reads as next-reads
-use Rattle.engine.proofs.whole.place.Reads as place-reads
 
 unit-size-requires : tie.Need-unit-size-requires
 unit-size-requires c κs = search needs

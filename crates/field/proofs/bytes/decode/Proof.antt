@@ -2,10 +2,6 @@ use Rattle.field.specs.Fields.{fieldOf}
 use borrow.Author.Needs.{needs}
 use Rattle.field.proofs.bytes.decode.Statement.{statement}
 use Rattle.field.proofs.bytes.decode.Tie as tie
-use Rattle.field.proofs.bytes.decode.Reads as reads
-use Rattle.field.proofs.bytes.decode.Lts as lts
-use Rattle.field.proofs.bytes.four.Reads as four-reads
-use Rattle.field.proofs.bytes.two.Reads as two-reads
 
 array-read-two : tie.Need-array-read-two
 array-read-two c = search needs

@@ -3,8 +3,6 @@ use mathlib.Core.Path.{refl}
 use borrow.Author.Needs.{needs}
 use Rattle.field.proofs.bytes.encode.Statement.{statement}
 use Rattle.field.proofs.bytes.encode.Tie as tie
-use Rattle.field.proofs.bytes.encode.Reads as reads
-use Rattle.field.proofs.bytes.encode.Lts as lts
 
 cast-t5 : tie.Need-cast-t5
 cast-t5 c = search needs

@@ -3,9 +3,6 @@ use mathlib.Core.Path.{sym, _∙_}
 use borrow.Author.Needs.{needs}
 use Rattle.field.proofs.judging.checked.Statement.{statement}
 use Rattle.field.proofs.judging.checked.Tie as tie
-use Rattle.field.proofs.judging.checked.Reads as reads
-use Rattle.field.proofs.judging.checked.Lts as lts
-use Rattle.field.proofs.judging.escaped.Reads as escaped-reads
 
 escaped-requires : tie.Need-escaped-requires
 escaped-requires c κs = search needs

@@ -4,11 +4,6 @@ use native.Mathlib.Omega.{arith}
 use borrow.Author.Needs.{needs}
 use Rattle.field.proofs.judging.differing.Statement.{statement}
 use Rattle.field.proofs.judging.differing.Tie as tie
-use Rattle.field.proofs.judging.differing.Reads as reads
-use Rattle.field.proofs.judging.differing.Lts as lts
-use Rattle.field.proofs.bytes.lower.Reads as lower-reads
-use Rattle.field.proofs.bytes.upper.Reads as upper-reads
-use Rattle.field.proofs.judging.pair.Reads as pair-reads
 
 pair-requires : tie.Need-pair-requires
 pair-requires c κs = search needs

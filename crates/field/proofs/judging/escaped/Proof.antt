@@ -2,8 +2,6 @@ use borrow.Author.Tests.{eq-eqb, ne-eqb}
 use Rattle.field.specs.Judging.{escaped}
 use Rattle.field.proofs.judging.escaped.Statement.{statement}
 use Rattle.field.proofs.judging.escaped.Tie as tie
-use Rattle.field.proofs.judging.escaped.Reads as reads
-use Rattle.field.proofs.judging.escaped.Lts as lts
 
 returns : tie.Need-returns
 unfolding escaped

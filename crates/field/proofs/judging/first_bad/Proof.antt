@@ -3,8 +3,6 @@ use Rattle.field.specs.Judging.{firstBad}
 use borrow.Author.Needs.{needs}
 use Rattle.field.proofs.judging.first_bad.Statement.{statement}
 use Rattle.field.proofs.judging.first_bad.Tie as tie
-use Rattle.field.proofs.judging.first_bad.Reads as reads
-use Rattle.field.proofs.judging.first_bad.Lts as lts
 
 cast-t6 : tie.Need-cast-t6
 cast-t6 c = search needs

@@ -2,12 +2,6 @@ use Rattle.field.specs.Judging.{judged}
 use borrow.Author.Needs.{needs}
 use Rattle.field.proofs.judging.judge.Statement.{statement}
 use Rattle.field.proofs.judging.judge.Tie as tie
-use Rattle.field.proofs.judging.judge.Reads as reads
-use Rattle.field.proofs.judging.judge.Lts as lts
-use Rattle.field.proofs.given.Reads as given-reads
-use Rattle.field.proofs.judging.checked.Reads as checked-reads
-use Rattle.field.proofs.judging.differing.Reads as differing-reads
-use Rattle.field.proofs.judging.first_bad.Reads as first-bad-reads
 
 given-requires : tie.Need-given-requires
 given-requires c κs = search needs

@@ -2,8 +2,6 @@ use borrow.Author.Tests.{eq-eqb, ne-eqb}
 use borrow.Author.Needs.{needs}
 use Rattle.field.proofs.judging.one.Statement.{statement}
 use Rattle.field.proofs.judging.one.Tie as tie
-use Rattle.field.proofs.judging.one.Reads as reads
-use Rattle.field.proofs.judging.one.Lts as lts
 
 returns : tie.Need-returns
 returns c = rw (c .before .if1 .taken, eq-eqb _ _ (c .if2 .taken)) (search needs)

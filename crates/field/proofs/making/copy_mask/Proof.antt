@@ -4,10 +4,6 @@ use mathlib.Core.Path.{sym, _∙_}
 use borrow.Author.Needs.{needs}
 use Rattle.field.proofs.making.copy_mask.Statement.{statement}
 use Rattle.field.proofs.making.copy_mask.Tie as tie
-use Rattle.field.proofs.making.copy_mask.Reads as reads
-use Rattle.field.proofs.making.copy_mask.Lts as lts
-use Rattle.field.proofs.making.agreement.Reads as agreement-reads
-use Rattle.field.proofs.signed.Reads as signed-reads
 
 returns : tie.Need-returns
 unfolding copyMask

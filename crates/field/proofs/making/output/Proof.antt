@@ -3,12 +3,6 @@ use Rattle.field.specs.Output.{merged, outputField}
 use borrow.Author.Needs.{needs}
 use Rattle.field.proofs.making.output.Statement.{statement}
 use Rattle.field.proofs.making.output.Tie as tie
-use Rattle.field.proofs.making.output.Reads as reads
-use Rattle.field.proofs.making.output.Lts as lts
-use Rattle.field.proofs.bytes.four.Reads as four-reads
-use Rattle.field.proofs.bytes.lower.Reads as lower-reads
-use Rattle.field.proofs.bytes.upper.Reads as upper-reads
-use Rattle.field.proofs.making.pair.Reads as pair-reads
 
 upper-requires : tie.Need-upper-requires
 upper-requires c κs = search needs

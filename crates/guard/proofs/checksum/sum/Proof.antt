@@ -4,12 +4,6 @@ use Rattle.guard.proofs.Laws.{advanced-none, advanced-even, advanced-od
 use borrow.Author.Needs.{needs}
 use Rattle.guard.proofs.checksum.sum.Statement.{statement}
 use Rattle.guard.proofs.checksum.sum.Tie as tie
-use Rattle.guard.proofs.checksum.sum.Reads as reads
-use Rattle.guard.proofs.checksum.sum.Lts as lts
-use Rattle.guard.proofs.checksum.plain_sum.Reads as plain-sum-reads
-use Rattle.guard.proofs.checksum.round.Reads as round-reads
-use Rattle.guard.proofs.checksum.wide16.Reads as wide16-reads
-use Rattle.guard.proofs.checksum.wide8.Reads as wide8-reads
 
 returns : tie.Need-returns
 returns c = advanced-none _ _ (c .before .before .before .args .part .now) (c .if2 .taken)

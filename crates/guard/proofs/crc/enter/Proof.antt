@@ -2,10 +2,6 @@ use Rattle.guard.specs.Crc.{crcByte}
 use borrow.Author.Needs.{needs}
 use Rattle.guard.proofs.crc.enter.Statement.{statement}
 use Rattle.guard.proofs.crc.enter.Tie as tie
-use Rattle.guard.proofs.crc.enter.Reads as reads
-use Rattle.guard.proofs.crc.enter.Lts as lts
-use Rattle.guard.proofs.crc.times_x4.Reads as times-x4-reads
-use Rattle.guard.proofs.crc.wide.Reads as wide-reads
 
 wide-requires : tie.Need-wide-requires
 wide-requires c κs = search needs

@@ -7,9 +7,6 @@ use lib.ListN.{length, drop}
 use Rattle.guard.specs.Crc.{crc}
 use Rattle.guard.proofs.crc.register.Statement.{statement}
 use Rattle.guard.proofs.crc.register.Tie as tie
-use Rattle.guard.proofs.crc.register.Reads as reads
-use Rattle.guard.proofs.crc.register.Lts as lts
-use Rattle.guard.proofs.crc.enter.Reads as enter-reads
 
 abbrev Inv-loop : tie.InvT-loop
 Inv-loop start bytes r₀ i₀ r i = (i ≤ length bytes) × (crc r (drop i bytes) ≡ crc start bytes)

@@ -3,8 +3,6 @@ use Rattle.guard.specs.Crc.{timesX}
 use borrow.Author.Needs.{needs}
 use Rattle.guard.proofs.crc.times_x.Statement.{statement}
 use Rattle.guard.proofs.crc.times_x.Tie as tie
-use Rattle.guard.proofs.crc.times_x.Reads as reads
-use Rattle.guard.proofs.crc.times_x.Lts as lts
 
 mul-result : tie.Need-mul-result
 mul-result c = search needs

@@ -1,9 +1,6 @@
 use borrow.Author.Needs.{needs}
 use Rattle.guard.proofs.crc.times_x4.Statement.{statement}
 use Rattle.guard.proofs.crc.times_x4.Tie as tie
-use Rattle.guard.proofs.crc.times_x4.Reads as reads
-use Rattle.guard.proofs.crc.times_x4.Lts as lts
-use Rattle.guard.proofs.crc.times_x.Reads as times-x-reads
 
 times-x-requires : tie.Need-times-x-requires
 times-x-requires c κs = search needs

@@ -7,9 +7,9 @@ use Rattle.key.proofs.admission.admit.Statement.{statement}
 use Rattle.key.proofs.admission.admit.Tie as tie
 
 -- a key past 14 holds what configure accepted
-configured : (c : tie.Else1) → Held (c .before .before .before .args .key)
+configured : (c : tie.Else1) → Held (c .before .before .args .key)
 configured c =
-    let s = c .before .before .before in
+    let s = c .before .before in
     held (s .args .key) (s .pre) (not-false (s .args .key .configured) (c .if1 .left))
 
 returns : tie.Need-returns
@@ -23,12 +23,12 @@ returns-2 c = rw (c .before .before .if1 .left, ne-eqb _ _ (c .if2 .taken))
 partial-requires : tie.Need-partial-requires
 partial-requires c κs =
     let e = c .before .before .before in
-    sized (e .before .before .before .args .key .signature .memory) (configured e .signs .memory)
+    sized (e .before .before .args .key .signature .memory) (configured e .signs .memory)
 
 partial-requires-2 : tie.Need-partial-requires-2
 partial-requires-2 c κs =
     let e = c .before .before .before .before in
-    sized (e .before .before .before .args .key .signature .wire) (configured e .signs .wire)
+    sized (e .before .before .args .key .signature .wire) (configured e .signs .wire)
 
 returns-3 : tie.Need-returns-3
 unfolding openAnswer
@@ -40,7 +40,7 @@ returns-3 c =
 past-requires : tie.Need-past-requires
 past-requires c κs =
     let e = c .before .before .before .before .before .before in
-    let k = e .before .before .before .args .key in
+    let k = e .before .before .args .key in
     (configured e .bounded, sized (k .signature .memory) (configured e .signs .memory))
 
 returns-4 : tie.Need-returns-4

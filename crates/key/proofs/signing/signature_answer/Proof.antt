@@ -1,6 +1,9 @@
 -- Each return follows the tests before it.
+use mathlib.Core.Path.{_≡_}
+use mathlib.Core.Bool.{false, _||_}
+use lib.Dec.{ltb}
 use borrow.Author.Needs.{needs}
-use Rattle.key.specs.Configuring.{signatureAnswer}
+use Rattle.key.specs.Configuring.{badDomain, escapesAlways, signatureAnswer}
 use Rattle.key.proofs.signing.signature_answer.Statement.{statement}
 use Rattle.key.proofs.signing.signature_answer.Tie as tie
 
@@ -22,57 +25,35 @@ escapes-always-requires c κs = search needs
 escapes-always-requires-2 : tie.Need-escapes-always-requires-2
 escapes-always-requires-2 c κs = search needs
 
+-- past the first test 1 doesn't apply
+no-1 : (e : tie.Else1) → let s = e .before .before .before .before .before .before .before .before .before .before .args .s in badDomain (s .memory) || (badDomain (s .wire) || ltb 1 (s .«attribute_flags»)) ≡ false
+no-1 e = rw (e .before .before .bad-domain2 .ensures, e .before .before .before .bad-domain .ensures) at (e .if1 .left)
+
 returns-2 : tie.Need-returns-2
 unfolding signatureAnswer
-returns-2 c =
-    let q = c .before in
-    let e = q .before .before in
-    let p = e .before .before in
-    rw (
-      rw (p .bad-domain2 .ensures, p .before .bad-domain .ensures) at (e .if1 .left),
-      rw (q .escapes-always2 .ensures, q .before .escapes-always .ensures) at (c .if2 .taken),
-    )
+returns-2 c = rw (no-1 (c .before .before .before), rw (c .before .escapes-always2 .ensures, c .before .before .escapes-always .ensures) at (c .if2 .taken))
+
+-- past the second neither 1 nor 2
+no-2 : (e : tie.Else2) → let s = e .before .before .before .before .before .before .before .before .before .before .before .before .before .args .s in escapesAlways (s .memory) || escapesAlways (s .wire) ≡ false
+no-2 e = rw (e .before .escapes-always2 .ensures, e .before .before .escapes-always .ensures) at (e .if2 .left)
 
 returns-3 : tie.Need-returns-3
 unfolding signatureAnswer
 returns-3 c =
-    let n = c .before .before in
-    let q = n .before in
-    let e = q .before .before in
-    let p = e .before .before in
-    rw (
-      rw (p .bad-domain2 .ensures, p .before .bad-domain .ensures) at (e .if1 .left),
-      rw (q .escapes-always2 .ensures, q .before .escapes-always .ensures) at (n .if2 .left),
-      c .if3 .taken,
-    )
+    let e = c .before .before in
+    rw (no-1 (e .before .before .before), no-2 e, c .if3 .taken)
 
 returns-4 : tie.Need-returns-4
 unfolding signatureAnswer
 returns-4 c =
-    let n = c .before .before .before in
-    let q = n .before in
-    let e = q .before .before in
-    let p = e .before .before in
-    rw (
-      rw (p .bad-domain2 .ensures, p .before .bad-domain .ensures) at (e .if1 .left),
-      rw (q .escapes-always2 .ensures, q .before .escapes-always .ensures) at (n .if2 .left),
-      c .before .if3 .left,
-      c .if4 .taken,
-    )
+    let e = c .before .before .before in
+    rw (no-1 (e .before .before .before), no-2 e, c .before .if3 .left, c .if4 .taken)
 
 returns-5 : tie.Need-returns-5
 unfolding signatureAnswer
 returns-5 c =
-    let n = c .before .before .before in
-    let q = n .before in
-    let e = q .before .before in
-    let p = e .before .before in
-    rw (
-      rw (p .bad-domain2 .ensures, p .before .bad-domain .ensures) at (e .if1 .left),
-      rw (q .escapes-always2 .ensures, q .before .escapes-always .ensures) at (n .if2 .left),
-      c .before .if3 .left,
-      c .if4 .left,
-    )
+    let e = c .before .before .before in
+    rw (no-1 (e .before .before .before), no-2 e, c .before .if3 .left, c .if4 .left)
 
 pub signature-answer-spec : {M : Type 1} → statement M
 signature-answer-spec =

@@ -1,12 +1,12 @@
 -- The invariants: the pieces left decide; of the inner loop, what is left to compare with piece k, and then the pieces behind it.
 use mathlib.Core.Path.{_≡_, ap, sym, _∙_}
-use mathlib.Core.Bool.{Bool, false}
+use mathlib.Core.Bool.{Bool, false, _||_}
 use Prim.Native.Nat.{_+_, _*_, _-_, _<_, _≤_}
 use native.Mathlib.Omega.{arith}
 use borrow.Author.Needs.{needs}
 use lib.ListN.{length, drop, getD, length-map}
 use Rattle.layout.specs.Pieces.{piece, pieces}
-use Rattle.layout.specs.Answers.{or, share, sharesWith, someShare}
+use Rattle.layout.specs.Answers.{share, sharesWith, someShare}
 use Rattle.layout.specs.Steps.{nowhere}
 use Rattle.layout.proofs.AnswerLaws.{share-next, share-all, with-met, with-passed, with-all, length-pieces, meet-share}
 use Rattle.layout.proofs.answer.overlapping.Statement.{statement}
@@ -15,7 +15,7 @@ use Rattle.layout.proofs.answer.overlapping.Tie as tie
 abbrev Inv-loop : tie.InvT-loop
 Inv-loop l n met₀ k p j₀ met j =
     (j ≤ n) × (met ≡ false)
-    × (or (sharesWith (getD (pieces l) k nowhere) (drop j (pieces l))) (someShare (drop (k + 1) (pieces l))) ≡ someShare (pieces l))
+    × (sharesWith (getD (pieces l) k nowhere) (drop j (pieces l)) || someShare (drop (k + 1) (pieces l)) ≡ someShare (pieces l))
 
 abbrev μ-loop : tie.MeasureT-loop
 μ-loop l n met₀ k p j₀ met j = n - j
@@ -85,7 +85,7 @@ loop-again c =
     let k = s .before .before .before .search .k in (
       search needs,
       s .loop .inv .1,
-      ap (λ (b : Bool). or b (someShare (drop (k + 1) (pieces l))))
+      ap (λ (b : Bool). b || someShare (drop (k + 1) (pieces l)))
           (sym (with-passed (getD (pieces l) k nowhere) (pieces l) (s .loop .j) (inner (c .before .before .before)) (met (c .before) (c .if1 .left))))
           ∙ s .loop .inv .2,
     )
@@ -103,7 +103,7 @@ search-again c =
     let l = t .before .before .before .args .l in (
       search needs,
       s .loop .inv .1,
-      sym (ap (λ (b : Bool). or b (someShare (drop (t .search .k + 1) (pieces l))))
+      sym (ap (λ (b : Bool). b || someShare (drop (t .search .k + 1) (pieces l)))
           (with-all (getD (pieces l) (t .search .k) nowhere) (pieces l) (s .loop .j) (omega (arith, count (t .before .before .before)))))
           ∙ s .loop .inv .2,
     )
@@ -119,7 +119,7 @@ returns-2 c =
     let s = c .before .before .before .before in
     let l = s .before .before .before .before .before .before .args .l in
     let k = s .before .before .before .search .k in
-    sym (ap (λ (b : Bool). or b (someShare (drop (k + 1) (pieces l))))
+    sym (ap (λ (b : Bool). b || someShare (drop (k + 1) (pieces l)))
     (with-met (getD (pieces l) k nowhere) (pieces l) (s .loop .j) (inner (c .before .before .before)) (met (c .before) (c .if1 .taken))))
     ∙ s .loop .inv .2
 

@@ -1,9 +1,6 @@
 use borrow.Author.Needs.{needs}
 use Rattle.packets.proofs.ending.abandon.Statement.{statement}
 use Rattle.packets.proofs.ending.abandon.Tie as tie
-use Rattle.packets.proofs.ending.abandon.Reads as reads
-use Rattle.packets.proofs.ending.abandon.Lts as lts
-use Rattle.packets.proofs.ending.key_of.Reads as key-of-reads
 
 key-of-requires : tie.Need-key-of-requires
 key-of-requires c κs = search needs

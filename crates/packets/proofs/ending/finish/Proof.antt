@@ -2,11 +2,6 @@ use Rattle.packets.proofs.PacketLaws.{finish-early, finish-done}
 use borrow.Author.Needs.{needs}
 use Rattle.packets.proofs.ending.finish.Statement.{statement}
 use Rattle.packets.proofs.ending.finish.Tie as tie
-use Rattle.packets.proofs.ending.finish.Reads as reads
-use Rattle.packets.proofs.ending.finish.Lts as lts
-use Rattle.packets.proofs.ending.key_of.Reads as key-of-reads
-use Rattle.packets.proofs.packing.taken.Reads as taken-reads
-use Rattle.packets.proofs.packing.wire_length.Reads as wire-length-reads
 
 taken-requires : tie.Need-taken-requires
 taken-requires c κs = search needs

@@ -1,11 +1,6 @@
 use borrow.Author.Needs.{needs}
 use Rattle.packets.proofs.opening.open.Statement.{statement}
 use Rattle.packets.proofs.opening.open.Tie as tie
-use Rattle.packets.proofs.opening.open.Reads as reads
-use Rattle.packets.proofs.opening.open.Lts as lts
-use Rattle.engine.proofs.begin.Reads as begin-reads
-use Rattle.key.proofs.admit.Reads as admit-reads
-use Rattle.transfer.proofs.receive_rule.Reads as receive-rule-reads
 
 admit-requires : tie.Need-admit-requires
 admit-requires c κs = search needs

@@ -2,10 +2,6 @@ use Rattle.packets.proofs.PacketLaws.{answer-8, answer-12, answer-0}
 use borrow.Author.Needs.{needs}
 use Rattle.packets.proofs.packing.answer.Statement.{statement}
 use Rattle.packets.proofs.packing.answer.Tie as tie
-use Rattle.packets.proofs.packing.answer.Reads as reads
-use Rattle.packets.proofs.packing.answer.Lts as lts
-use Rattle.packets.proofs.packing.taken.Reads as taken-reads
-use Rattle.packets.proofs.packing.wire_length.Reads as wire-length-reads
 
 returns : tie.Need-returns
 returns c = answer-8 _ _ _ (c .if1 .taken)

@@ -3,13 +3,6 @@ use Rattle.packets.proofs.PacketLaws.{packet-told, packet-refused, pack
 use borrow.Author.Needs.{needs}
 use Rattle.packets.proofs.packing.packet.Statement.{statement}
 use Rattle.packets.proofs.packing.packet.Tie as tie
-use Rattle.packets.proofs.packing.packet.Reads as reads
-use Rattle.packets.proofs.packing.packet.Lts as lts
-use Rattle.engine.proofs.taken.Reads as taken-reads
-use Rattle.engine.proofs.written.Reads as written-reads
-use Rattle.engine.proofs.feed.Reads as feed-reads
-use Rattle.packets.proofs.packing.answer.Reads as answer-reads
-use Rattle.transfer.proofs.receive_rule.Reads as receive-rule-reads
 
 answer-requires : tie.Need-answer-requires
 answer-requires c κs = search needs

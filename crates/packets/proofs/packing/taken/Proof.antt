@@ -4,10 +4,6 @@ use Rattle.packets.proofs.PacketLaws.{wire-short}
 use borrow.Author.Needs.{needs}
 use Rattle.packets.proofs.packing.taken.Statement.{statement}
 use Rattle.packets.proofs.packing.taken.Tie as tie
-use Rattle.packets.proofs.packing.taken.Reads as reads
-use Rattle.packets.proofs.packing.taken.Lts as lts
-use Rattle.engine.proofs.taken.Reads as taken-reads
-use Rattle.transfer.proofs.receive_rule.Reads as receive-rule-reads
 
 receive-rule-requires : tie.Need-receive-rule-requires
 receive-rule-requires c κs = search needs
@@ -15,7 +11,7 @@ receive-rule-requires c κs = search needs
 taken-requires : tie.Need-taken-requires
 taken-requires c κs =
     let s = c .before .before .before in
-    rw (c .receive-rule .ensures) (omega (arith, s .pre .fits, wire-short _ (s .pre)))
+    rw (c .receive-rule .ensures) (omega (arith, s .pre .fits, wire-short (s .args .s) (s .pre .key) (s .pre .opened)))
 
 returns : tie.Need-returns
 returns c = c .taken .ensures ∙ rw (c .before .receive-rule .ensures)

@@ -2,12 +2,9 @@ use Rattle.packets.proofs.PacketLaws.{wire-measured}
 use borrow.Author.Needs.{needs}
 use Rattle.packets.proofs.packing.wire_length.Statement.{statement}
 use Rattle.packets.proofs.packing.wire_length.Tie as tie
-use Rattle.packets.proofs.packing.wire_length.Reads as reads
-use Rattle.packets.proofs.packing.wire_length.Lts as lts
-use Rattle.key.proofs.stream_length.Reads as stream-length-reads
 
 stream-length-requires : tie.Need-stream-length-requires
-stream-length-requires c κs = wire-measured _ (c .before .before .pre)
+stream-length-requires c κs = wire-measured (c .before .before .args .s) (c .before .before .pre .key) (c .before .before .pre .opened)
 
 returns : tie.Need-returns
 returns c = search needs

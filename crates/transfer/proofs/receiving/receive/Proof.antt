@@ -5,15 +5,6 @@ use Rattle.transfer.proofs.Laws.{receive-refused, receive-asks, receive
 use borrow.Author.Needs.{needs}
 use Rattle.transfer.proofs.receiving.receive.Statement.{statement}
 use Rattle.transfer.proofs.receiving.receive.Tie as tie
-use Rattle.transfer.proofs.receiving.receive.Reads as reads
-use Rattle.transfer.proofs.receiving.receive.Lts as lts
-use Rattle.engine.proofs.begin.Reads as begin-reads
-use Rattle.engine.proofs.feed.Reads as feed-reads
-use Rattle.key.proofs.admit_transfer.Reads as admit-transfer-reads
-use Rattle.key.proofs.stream_length.Reads as stream-length-reads
-use Rattle.key.proofs.record.Reads as record-reads
-use Rattle.transfer.proofs.refused.Reads as refused-reads
-use Rattle.transfer.proofs.rules.receive_rule.Reads as receive-rule-reads
 
 admit-transfer-requires : tie.Need-admit-transfer-requires
 admit-transfer-requires c κs = search needs

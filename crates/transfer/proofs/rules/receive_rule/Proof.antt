@@ -1,9 +1,6 @@
 use borrow.Author.Needs.{needs}
 use Rattle.transfer.proofs.rules.receive_rule.Statement.{statement}
 use Rattle.transfer.proofs.rules.receive_rule.Tie as tie
-use Rattle.transfer.proofs.rules.receive_rule.Reads as reads
-use Rattle.transfer.proofs.rules.receive_rule.Lts as lts
-use Rattle.field.proofs.copy_mask.Reads as copy-mask-reads
 
 copy-mask-requires : tie.Need-copy-mask-requires
 copy-mask-requires c κs = search needs

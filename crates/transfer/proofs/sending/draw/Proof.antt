@@ -11,14 +11,6 @@ use Rattle.transfer.specs.Sending.{layoutBytes}
 use Rattle.transfer.proofs.SendLaws.{draw-start, draw-some, draw-asks, draw-turn, draw-end}
 use Rattle.transfer.proofs.sending.draw.Statement.{statement}
 use Rattle.transfer.proofs.sending.draw.Tie as tie
-use Rattle.transfer.proofs.sending.draw.Reads as reads
-use Rattle.transfer.proofs.sending.draw.Lts as lts
-use Rattle.engine.proofs.begin.Reads as begin-reads
-use Rattle.engine.proofs.feed.Reads as feed-reads
-use Rattle.layout.proofs.offset.LayoutOffset.ahead.Reads as ahead-reads
-use Rattle.layout.proofs.offset.LayoutOffset.new.Reads as new-reads
-use Rattle.layout.proofs.run.Reads as run-reads
-use Rattle.transfer.proofs.sending.lesser.Reads as lesser-reads
 
 abbrev Inv-loop : tie.InvT-loop
 Inv-loop rule from memory offset n to wire₀ p₀ done₀ wire p done = (done ≤ n) × Going rule (begun rule Empty) to 0 wire₀ (layoutBytes from memory (offset .0) n) p wire (drop done (layoutBytes from memory (offset .0) n))

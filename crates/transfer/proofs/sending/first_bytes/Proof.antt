@@ -4,9 +4,6 @@ use Rattle.layout.specs.declared.offset.MemoryOffset.{MemoryOffset}
 use borrow.Author.Needs.{needs}
 use Rattle.transfer.proofs.sending.first_bytes.Statement.{statement}
 use Rattle.transfer.proofs.sending.first_bytes.Tie as tie
-use Rattle.transfer.proofs.sending.first_bytes.Reads as reads
-use Rattle.transfer.proofs.sending.first_bytes.Lts as lts
-use Rattle.layout.proofs.offset.MemoryOffset.new.Reads as new-reads
 
 new-requires : tie.Need-new-requires
 new-requires c κs = search needs

@@ -4,15 +4,6 @@ use Rattle.transfer.proofs.SendLaws.{send-refused, send-small, send-ask
 use borrow.Author.Needs.{needs}
 use Rattle.transfer.proofs.sending.send.Statement.{statement}
 use Rattle.transfer.proofs.sending.send.Tie as tie
-use Rattle.transfer.proofs.sending.send.Reads as reads
-use Rattle.transfer.proofs.sending.send.Lts as lts
-use Rattle.key.proofs.admit_transfer.Reads as admit-transfer-reads
-use Rattle.key.proofs.stream_length.Reads as stream-length-reads
-use Rattle.key.proofs.record.Reads as record-reads
-use Rattle.transfer.proofs.refused.Reads as refused-reads
-use Rattle.transfer.proofs.rules.send_rule.Reads as send-rule-reads
-use Rattle.transfer.proofs.sending.draw.Reads as draw-reads
-use Rattle.transfer.proofs.sending.first_bytes.Reads as first-bytes-reads
 
 admit-transfer-requires : tie.Need-admit-transfer-requires
 admit-transfer-requires c κs = search needs

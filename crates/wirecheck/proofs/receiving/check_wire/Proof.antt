@@ -3,14 +3,6 @@ use Rattle.wirecheck.specs.Checking.{checkOf, memoryOf}
 use borrow.Author.Needs.{needs}
 use Rattle.wirecheck.proofs.receiving.check_wire.Statement.{statement}
 use Rattle.wirecheck.proofs.receiving.check_wire.Tie as tie
-use Rattle.wirecheck.proofs.receiving.check_wire.Reads as reads
-use Rattle.wirecheck.proofs.receiving.check_wire.Lts as lts
-use Rattle.key.proofs.configure.Reads as configure-reads
-use Rattle.key.proofs.fresh.Reads as fresh-reads
-use Rattle.key.proofs.number.Reads as number-reads
-use Rattle.key.proofs.check.Reads as check-reads
-use Rattle.wirecheck.proofs.receiving.receive_in_packets.Reads as receive-in-packets-reads
-use Rattle.wirecheck.proofs.setup.configuration.Reads as configuration-reads
 
 returns : tie.Need-returns
 unfolding checkOf memoryOf

@@ -17,13 +17,6 @@ use Rattle.wirecheck.specs.Checking.{Along, received}
 use Rattle.wirecheck.proofs.Laws.{key-usable, opened-along, along-session, along-next, along-end, along-memory}
 use Rattle.wirecheck.proofs.receiving.receive_in_packets.Statement.{statement}
 use Rattle.wirecheck.proofs.receiving.receive_in_packets.Tie as tie
-use Rattle.wirecheck.proofs.receiving.receive_in_packets.Reads as reads
-use Rattle.wirecheck.proofs.receiving.receive_in_packets.Lts as lts
-use Rattle.layout.proofs.offset.LayoutOffset.new.Reads as new-reads
-use Rattle.packets.proofs.finish.Reads as finish-reads
-use Rattle.packets.proofs.open.Reads as open-reads
-use Rattle.packets.proofs.packet.Reads as packet-reads
-use Rattle.wirecheck.proofs.receiving.lesser.Reads as lesser-reads
 
 abbrev Inv-loop : tie.InvT-loop
 Inv-loop wire memory₀ session₀ rest₀ memory session rest = Receivable (session₀ .key) (length memory₀) (length wire) × Along (session₀ .key) memory₀ wire session rest memory × (length memory ≡ length memory₀)

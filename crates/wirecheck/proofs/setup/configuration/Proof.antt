@@ -4,10 +4,6 @@ use Rattle.layout.specs.declared.offset.MemoryOffset.{MemoryOffset}
 use borrow.Author.Needs.{needs}
 use Rattle.wirecheck.proofs.setup.configuration.Statement.{statement}
 use Rattle.wirecheck.proofs.setup.configuration.Tie as tie
-use Rattle.wirecheck.proofs.setup.configuration.Reads as reads
-use Rattle.wirecheck.proofs.setup.configuration.Lts as lts
-use Rattle.layout.proofs.offset.MemoryOffset.new.Reads as new-reads
-use Rattle.wirecheck.proofs.setup.signature.Reads as signature-reads
 
 new-requires : tie.Need-new-requires
 new-requires c κs = search needs

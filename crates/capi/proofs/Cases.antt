@@ -1,0 +1,59 @@
+-- The three cases of a record. Assumes nothing.
+use mathlib.Core.Path.{_≡_, refl}
+use mathlib.Core.Bool.{true, false}
+use Rattle.key.specs.declared.Key.{Key}
+use Rattle.key.specs.Keys.{CameFromCalls}
+use Rattle.packets.specs.declared.Session.{Session}
+use Rattle.packets.specs.Sessions.{SessionFromCalls}
+use Rattle.capi.specs.declared.KeyRecord.{KeyRecord}
+use Rattle.capi.specs.declared.SessionRecord.{SessionRecord}
+use Rattle.capi.specs.Records.{keyOf, keyRecord, isKey, sessionOf, sessionRecord, isSession}
+use Rattle.capi.specs.Border.{configured, sent, wireAfter, received, memoryAfter, checked, opened, packed, memoryThen, finished, abandoned}
+use Rattle.capi.specs.Cases.{ActsAs, NoKey, SessionActsAs, NoSession, Border}
+use Rattle.capi.proofs.Laws.{key-round, session-round, key-told, key-back, key-passes, session-told, session-back, session-passes}
+
+acts : (r : KeyRecord) → isKey r ≡ true → ActsAs r (keyOf r)
+unfolding configured sent wireAfter received memoryAfter checked opened
+acts r h = record {
+  configure = λ n c. rw h refl;
+  send = λ memory wire x count. rw h (refl, refl);
+  receive = λ memory wire x count. rw h (refl, refl);
+  check = rw h refl;
+  «open» = λ n x count. rw h refl;
+}
+
+fails : (r : KeyRecord) → isKey r ≡ false → NoKey r
+unfolding configured sent wireAfter received memoryAfter checked opened
+fails r h = record {
+  configure = λ n c. rw h refl;
+  send = λ memory wire x count. rw h (refl, refl);
+  receive = λ memory wire x count. rw h (refl, refl);
+  check = rw h refl;
+  «open» = λ n x count. rw h refl;
+}
+
+session-acts : (r : SessionRecord) → isSession r ≡ true → SessionActsAs r (sessionOf r)
+unfolding packed memoryThen finished abandoned
+session-acts r h = record { packet = λ memory bytes. rw h (refl, refl); finish = rw h refl; abandon = rw h refl }
+
+session-fails : (r : SessionRecord) → isSession r ≡ false → NoSession r
+unfolding packed memoryThen finished abandoned
+session-fails r h = record { packet = λ memory bytes. rw h (refl, refl); finish = rw h refl; abandon = rw h refl }
+
+came : (k : Key) → CameFromCalls k → ActsAs (keyRecord k) k
+came k c = rw (key-round k) at (acts (keyRecord k) (key-passes k c))
+
+session-came : (s : Session) → SessionFromCalls s → SessionActsAs (sessionRecord s) s
+session-came s c = rw (session-round s) at (session-acts (sessionRecord s) (session-passes s c))
+
+pub border : Border
+border = record {
+  keyRound = key-round;
+  sessionRound = session-round;
+  keyCame = came;
+  sessionCame = session-came;
+  keyPasses = λ r h. (acts r h, key-told r h .usable, key-back r h);
+  sessionPasses = λ r h e. (session-acts r h, session-told r h e, session-back r h);
+  keyFails = fails;
+  sessionFails = session-fails;
+}

@@ -1,0 +1,23 @@
+use borrow.Author.Needs.{needs}
+use Rattle.capi.proofs.converting.session_of.Statement.{statement}
+use Rattle.capi.proofs.converting.session_of.Tie as tie
+
+key-of-requires : tie.Need-key-of-requires
+key-of-requires c κs = search needs
+
+new-requires : tie.Need-new-requires
+new-requires c κs = search needs
+
+session-numbers-requires : tie.Need-session-numbers-requires
+session-numbers-requires c κs = search needs
+
+slot-of-requires : tie.Need-slot-of-requires
+slot-of-requires c κs = search needs
+
+returns : tie.Need-returns
+returns c = rw (c .before .before .slot-of .ensures, c .before .before .before .session-numbers .ensures, c .before .before .before .before .before .new .ensures, c .before .before .before .before .before .before .key-of .ensures)
+
+pub session-of-spec : {M : Type 1} → statement M
+session-of-spec =
+    tie.close
+    (tie.spec key-of-requires new-requires session-numbers-requires slot-of-requires returns)

@@ -1,0 +1,49 @@
+use mathlib.Core.Path.{sym, _∙_}
+use Rattle.capi.specs.Border.{finished}
+use Rattle.capi.proofs.Laws.{session-told}
+use borrow.Author.Needs.{needs}
+use Rattle.capi.proofs.packing.garoalva_finish.Statement.{statement}
+use Rattle.capi.proofs.packing.garoalva_finish.Tie as tie
+
+is-session-requires : tie.Need-is-session-requires
+is-session-requires c κs = search needs
+
+session-of-requires : tie.Need-session-of-requires
+session-of-requires c κs = search needs
+
+finish-requires : tie.Need-finish-requires
+finish-requires c κs = rw (c .session-of .ensures) (session-told _ (sym (c .before .before .is-session .ensures .0) ∙ c .before .if1 .taken) (c .before .before .is-session .ensures .1))
+
+key-record-requires : tie.Need-key-record-requires
+key-record-requires c κs = search needs
+
+session-finished-requires : tie.Need-session-finished-requires
+session-finished-requires c κs = search needs
+
+number-requires : tie.Need-number-requires
+number-requires c κs = search needs
+
+wide-requires : tie.Need-wide-requires
+wide-requires c κs = search needs
+
+returns : tie.Need-returns
+unfolding finished
+returns c = rw (c .wide .ensures, c .before .number .ensures, c .before .before .session-finished .ensures, c .before .before .before .key-record .ensures, c .before .before .before .before .finish .ensures, c .before .before .before .before .before .session-of .ensures, sym (c .before .before .before .before .before .before .before .is-session .ensures .0) ∙ c .before .before .before .before .before .before .if1 .taken)
+
+returns-2 : tie.Need-returns-2
+unfolding finished
+returns-2 c = rw (sym (c .before .before .is-session .ensures .0) ∙ c .before .if1 .left)
+
+pub garoalva-finish-spec : {M : Type 1} → statement M
+garoalva-finish-spec =
+    tie.close
+    (tie.spec
+    is-session-requires
+    session-of-requires
+    finish-requires
+    key-record-requires
+    session-finished-requires
+    number-requires
+    wide-requires
+    returns
+    returns-2)

@@ -1,0 +1,52 @@
+use mathlib.Core.Path.{refl, sym, _∙_}
+use Rattle.capi.specs.Border.{packed, memoryThen}
+use Rattle.capi.proofs.Laws.{session-told}
+use borrow.Author.Needs.{needs}
+use Rattle.capi.proofs.packing.garoalva_packet.Statement.{statement}
+use Rattle.capi.proofs.packing.garoalva_packet.Tie as tie
+
+is-session-requires : tie.Need-is-session-requires
+is-session-requires c κs = search needs
+
+session-of-requires : tie.Need-session-of-requires
+session-of-requires c κs = search needs
+
+packet-requires : tie.Need-packet-requires
+packet-requires c κs = rw (c .before .session-of .ensures) (session-told _ (sym (c .before .before .before .is-session .ensures .0) ∙ c .before .before .if1 .taken) (c .before .before .before .is-session .ensures .1))
+
+session-record-requires : tie.Need-session-record-requires
+session-record-requires c κs = search needs
+
+number-requires : tie.Need-number-requires
+number-requires c κs = search needs
+
+wide-requires : tie.Need-wide-requires
+wide-requires c κs = search needs
+
+same-length : tie.Need-same-length
+same-length c = search needs
+
+returns : tie.Need-returns
+unfolding packed memoryThen
+returns c =
+    let p = c .before .before .before .before .before in
+    rw (c .wide .ensures, c .before .number .ensures, c .before .before .session-record .ensures, p .packet .ensures .0, p .before .before .session-of .ensures, sym (c .before .before .before .before .before .before .before .before .before .is-session .ensures .0) ∙ c .before .before .before .before .before .before .before .before .if1 .taken)
+    (refl, p .packet .ensures .1 ∙ rw (p .before .before .session-of .ensures))
+
+returns-2 : tie.Need-returns-2
+unfolding packed memoryThen
+returns-2 c = rw (sym (c .before .is-session .ensures .0) ∙ c .if1 .left) (refl, refl)
+
+pub garoalva-packet-spec : {M : Type 1} → statement M
+garoalva-packet-spec =
+    tie.close
+    (tie.spec
+    is-session-requires
+    session-of-requires
+    packet-requires
+    session-record-requires
+    number-requires
+    wide-requires
+    same-length
+    returns
+    returns-2)

@@ -1,0 +1,34 @@
+use Rattle.capi.specs.Records.{isKey}
+use borrow.Author.Needs.{needs}
+use Rattle.capi.proofs.sealing.is_key.Statement.{statement}
+use Rattle.capi.proofs.sealing.is_key.Tie as tie
+
+is-flag-requires : tie.Need-is-flag-requires
+is-flag-requires c κs = search needs
+
+key-numbers-requires : tie.Need-key-numbers-requires
+key-numbers-requires c κs = search needs
+
+proper-requires : tie.Need-proper-requires
+proper-requires c κs = search needs
+
+key-of-requires : tie.Need-key-of-requires
+key-of-requires c κs = search needs
+
+usable-requires : tie.Need-usable-requires
+usable-requires c κs = search needs
+
+returns : tie.Need-returns
+unfolding isKey
+returns c = rw (c .usable .ensures, c .before .key-of .ensures, c .before .before .proper .ensures, c .before .before .before .key-numbers .ensures, c .before .before .before .before .before .is-flag .ensures)
+
+pub is-key-spec : {M : Type 1} → statement M
+is-key-spec =
+    tie.close
+    (tie.spec
+    is-flag-requires
+    key-numbers-requires
+    proper-requires
+    key-of-requires
+    usable-requires
+    returns)

@@ -1,0 +1,52 @@
+use mathlib.Core.Path.{refl, sym, _∙_}
+use Rattle.capi.specs.Border.{sent, wireAfter}
+use Rattle.capi.proofs.Laws.{key-told}
+use borrow.Author.Needs.{needs}
+use Rattle.capi.proofs.transferring.garoalva_send.Statement.{statement}
+use Rattle.capi.proofs.transferring.garoalva_send.Tie as tie
+
+is-key-requires : tie.Need-is-key-requires
+is-key-requires c κs = search needs
+
+new-requires : tie.Need-new-requires
+new-requires c κs = search needs
+
+key-of-requires : tie.Need-key-of-requires
+key-of-requires c κs = search needs
+
+send-requires : tie.Need-send-requires
+send-requires c κs = rw (c .before .key-of .ensures) (key-told _ (sym (c .before .before .before .before .is-key .ensures) ∙ c .before .before .before .if1 .taken) .usable)
+
+transferred-requires : tie.Need-transferred-requires
+transferred-requires c κs = search needs
+
+same-length : tie.Need-same-length
+same-length c = search needs
+
+returns : tie.Need-returns
+unfolding sent wireAfter
+returns c =
+    let t = c .before .before .before in
+    rw (c .transferred .ensures, t .send .ensures .0, t .before .before .key-of .ensures, t .before .before .before .new .ensures, sym (c .before .before .before .before .before .before .before .before .is-key .ensures) ∙ c .before .before .before .before .before .before .before .if1 .taken)
+    (refl, t .send .ensures .1 ∙ rw (t .before .before .key-of .ensures, t .before .before .before .new .ensures))
+
+not-a-key-requires : tie.Need-not-a-key-requires
+not-a-key-requires c κs = search needs
+
+returns-2 : tie.Need-returns-2
+unfolding sent wireAfter
+returns-2 c = rw (c .not-a-key .ensures, sym (c .before .before .is-key .ensures) ∙ c .before .if1 .left) (refl, refl)
+
+pub garoalva-send-spec : {M : Type 1} → statement M
+garoalva-send-spec =
+    tie.close
+    (tie.spec
+    is-key-requires
+    new-requires
+    key-of-requires
+    send-requires
+    transferred-requires
+    same-length
+    returns
+    not-a-key-requires
+    returns-2)

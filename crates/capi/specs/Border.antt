@@ -1,0 +1,129 @@
+-- The calls at the border to C, for every record and all input: a key or session gets what the call below answers, any other record a number of our own.
+use mathlib.Core.Bool.{cond}
+use mathlib.Core.List.{List}
+use Prim.Native.Nat.{ℕ}
+use lib.ListN.{replicate}
+use Rattle.key.specs.declared.Configured.{Configured}
+use Rattle.key.specs.declared.Checked.{Checked}
+use Rattle.key.specs.declared.Outcome.{Outcome}
+use Rattle.key.specs.declared.Outcome.the-variants.{Done, Refused}
+use Rattle.key.specs.Numbers.{number}
+use Rattle.key.specs.Keys.{configuring, checking}
+use Rattle.transfer.specs.declared.Transferred.{Transferred}
+use Rattle.transfer.specs.Transferring.{sending, wireSent, receiving, memoryReceived}
+use Rattle.packets.specs.declared.Opened.{Opened}
+use Rattle.packets.specs.declared.Packed.{Packed}
+use Rattle.packets.specs.declared.Finished.{Finished}
+use Rattle.packets.specs.declared.Abandoned.{Abandoned}
+use Rattle.packets.specs.Sessions.{opening, packing, memoryPacked, finishing, abandoning}
+use Rattle.capi.specs.declared.ConfigurationRecord.{ConfigurationRecord}
+use Rattle.capi.specs.declared.KeyRecord.{KeyRecord}
+use Rattle.capi.specs.declared.SessionRecord.{SessionRecord}
+use Rattle.capi.specs.declared.ConfiguredRecord.{ConfiguredRecord}
+use Rattle.capi.specs.declared.TransferredRecord.{TransferredRecord}
+use Rattle.capi.specs.declared.CheckedRecord.{CheckedRecord}
+use Rattle.capi.specs.declared.OpenedRecord.{OpenedRecord}
+use Rattle.capi.specs.declared.PackedRecord.{PackedRecord}
+use Rattle.capi.specs.declared.FinishedRecord.{FinishedRecord}
+use Rattle.capi.specs.declared.AbandonedRecord.{AbandonedRecord}
+use Rattle.capi.specs.Records.{configurationOf, keyOf, keyRecord, isKey, sessionOf, sessionRecord, isSession}
+
+abbrev pub notKey : ℕ
+notKey = 1000
+
+abbrev pub notSession : ℕ
+notSession = 1001
+
+-- ---- what the calls below answer, as records
+
+abbrev pub configuredRecord : Configured → ConfiguredRecord
+configuredRecord c = record { key = keyRecord (c .key); answer = number (c .outcome) }
+
+abbrev pub transferredRecord : Transferred → TransferredRecord
+transferredRecord t = record { key = keyRecord (t .key); answer = number (t .outcome); taken = t .taken; written = t .written }
+
+abbrev pub checkedRecord : Checked → CheckedRecord
+checkedRecord c = record { key = keyRecord (c .key); answer = 0; kind = c .kind; actual = c .actual; expected = c .expected; offset = c .offset }
+
+-- A record that is no session: it bears no seal.
+abbrev pub noSession : KeyRecord → SessionRecord
+noSession k = record {
+  seal = 0;
+  key = k;
+  start = 0;
+  length = 0;
+  «input_index» = 0;
+  «input_at» = 0;
+  «output_index» = 0;
+  «output_at» = 0;
+  «input_guard» = 0;
+  «output_guard» = 0;
+  «input_odd» = 0;
+  «output_odd» = 0;
+  «error_type» = 0;
+  «error_actual» = 0;
+  «error_expected» = 0;
+  «error_offset» = 0;
+  held = replicate 8 0;
+}
+
+-- an open's session where it was accepted
+abbrev pub sessionOpened : Outcome → Opened → SessionRecord
+sessionOpened Done o = sessionRecord (o .session)
+sessionOpened (Refused r) o = noSession (keyRecord (o .key))
+
+abbrev pub openedRecord : Opened → OpenedRecord
+openedRecord o = record { key = keyRecord (o .key); session = sessionOpened (o .outcome) o; answer = number (o .outcome) }
+
+abbrev pub packedRecord : Packed → PackedRecord
+packedRecord p = record { session = sessionRecord (p .session); answer = number (p .outcome); taken = p .taken; written = p .written }
+
+-- a finish's session where it was refused; an accepted one ends it
+abbrev pub sessionFinished : Outcome → Finished → SessionRecord
+sessionFinished Done f = noSession (keyRecord (f .key))
+sessionFinished (Refused r) f = sessionRecord (f .session)
+
+abbrev pub finishedRecord : Finished → FinishedRecord
+finishedRecord f = record { key = keyRecord (f .key); session = sessionFinished (f .outcome) f; answer = number (f .outcome) }
+
+abbrev pub abandonedRecord : Abandoned → AbandonedRecord
+abandonedRecord a = record { key = keyRecord (a .key); answer = number (a .outcome) }
+
+-- ---- the calls
+
+unfoldable pub configured : KeyRecord → ℕ → ConfigurationRecord → ConfiguredRecord
+configured r n c = cond (isKey r) (configuredRecord (configuring (keyOf r) n (configurationOf c))) (record { key = r; answer = notKey })
+
+abbrev pub notTransferred : KeyRecord → TransferredRecord
+notTransferred r = record { key = r; answer = notKey; taken = 0; written = 0 }
+
+unfoldable pub sent : KeyRecord → List ℕ → List ℕ → ℕ → ℕ → TransferredRecord
+sent r memory wire x count = cond (isKey r) (transferredRecord (sending (keyOf r) memory wire x count)) (notTransferred r)
+
+unfoldable pub wireAfter : KeyRecord → List ℕ → List ℕ → ℕ → ℕ → List ℕ
+wireAfter r memory wire x count = cond (isKey r) (wireSent (keyOf r) memory wire x count) wire
+
+unfoldable pub received : KeyRecord → List ℕ → List ℕ → ℕ → ℕ → TransferredRecord
+received r memory wire x count = cond (isKey r) (transferredRecord (receiving (keyOf r) memory wire x count)) (notTransferred r)
+
+unfoldable pub memoryAfter : KeyRecord → List ℕ → List ℕ → ℕ → ℕ → List ℕ
+memoryAfter r memory wire x count = cond (isKey r) (memoryReceived (keyOf r) memory wire x count) memory
+
+unfoldable pub checked : KeyRecord → CheckedRecord
+checked r = cond (isKey r) (checkedRecord (checking (keyOf r) (keyOf r .slot))) (record { key = r; answer = notKey; kind = 0; actual = 0; expected = 0; offset = 0 })
+
+unfoldable pub opened : KeyRecord → ℕ → ℕ → ℕ → OpenedRecord
+opened r n x count = cond (isKey r) (openedRecord (opening (keyOf r) n (record { 0 = x }) count)) (record { key = r; session = noSession r; answer = notKey })
+
+unfoldable pub packed : SessionRecord → ℕ → List ℕ → PackedRecord
+packed r n bytes = cond (isSession r) (packedRecord (packing (sessionOf r) n bytes)) (record { session = r; answer = notSession; taken = 0; written = 0 })
+
+unfoldable pub memoryThen : SessionRecord → List ℕ → List ℕ → List ℕ
+memoryThen r memory bytes = cond (isSession r) (memoryPacked (sessionOf r) memory bytes) memory
+
+-- What a record that is no session gets besides its number: the key in it, as it stands, and itself.
+unfoldable pub finished : SessionRecord → FinishedRecord
+finished r = cond (isSession r) (finishedRecord (finishing (sessionOf r))) (record { key = r .key; session = r; answer = notSession })
+
+unfoldable pub abandoned : SessionRecord → AbandonedRecord
+abandoned r = cond (isSession r) (abandonedRecord (abandoning (sessionOf r))) (record { key = r .key; answer = notSession })

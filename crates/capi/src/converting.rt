@@ -1,0 +1,250 @@
+// Records into keys and sessions, and back.
+ghost use mathlib.Core.Path.{_≡_};
+ghost use Rattle.capi.specs.Records as records;
+use crate::ConfigurationRecord;
+use crate::KEY_SEAL;
+use crate::KeyRecord;
+use crate::SESSION_SEAL;
+use crate::SessionRecord;
+use crate::SignatureRecord;
+use engine::Progress;
+use engine::Side;
+use field::Part;
+use guard::Running;
+use key::Configuration;
+use key::Error;
+use key::Key;
+use key::Signature;
+use key::Slot;
+use layout::LayoutOffset;
+use packets::Session;
+
+// Check's four numbers.
+pub(crate) struct Numbers {
+    pub(crate) kind: u32,
+    pub(crate) actual: u32,
+    pub(crate) expected: u32,
+    pub(crate) offset: u64,
+}
+
+pub(crate) fn numbers_of(slot: Slot) -> Numbers
+    ensures { λ r. ⌜ r ≡ records.numbersOf slot ⌝ }
+{
+    match slot {
+        Slot::Empty => Numbers {
+            kind: 0,
+            actual: 0,
+            expected: 0,
+            offset: 0,
+        },
+        Slot::Holding(e) => {
+            let part = e.part;
+            Numbers {
+                kind: key::error_type(part),
+                actual: e.actual,
+                expected: e.expected,
+                offset: e.offset,
+            }
+        }
+    }
+}
+
+fn part_of(kind: u32) -> Part
+    ensures { λ r. ⌜ r ≡ records.partOf kind ⌝ }
+{
+    if kind == 1 {
+        return Part::Guard;
+    }
+    if kind == 2 {
+        return Part::Reference;
+    }
+    Part::Application
+}
+
+pub(crate) fn slot_of(n: Numbers) -> Slot
+    ensures { λ r. ⌜ r ≡ records.slotOf n ⌝ }
+{
+    if n.kind == 0 {
+        return Slot::Empty;
+    }
+    let part = part_of(n.kind);
+    Slot::Holding(Error {
+        part,
+        actual: n.actual,
+        expected: n.expected,
+        offset: n.offset,
+    })
+}
+
+pub(crate) fn flag(b: bool) -> u32
+    ensures { λ r. ⌜ r ≡ records.flag b ⌝ }
+{
+    if b { 1 } else { 0 }
+}
+
+fn signature_of(r: SignatureRecord) -> Signature
+    ensures { λ s. ⌜ s ≡ records.signatureOf r ⌝ }
+{
+    let memory = r.memory;
+    let wire = r.wire;
+    Signature {
+        memory,
+        wire,
+        attribute_flags: r.attribute_flags,
+        check_mask: r.check_mask,
+        copy_mask: r.copy_mask,
+    }
+}
+
+fn signature_record(s: Signature) -> SignatureRecord
+    ensures { λ r. ⌜ r ≡ records.signatureRecord s ⌝ }
+{
+    let memory = s.memory;
+    let wire = s.wire;
+    SignatureRecord {
+        memory,
+        wire,
+        attribute_flags: s.attribute_flags,
+        check_mask: s.check_mask,
+        copy_mask: s.copy_mask,
+        spare: 0,
+    }
+}
+
+pub(crate) fn configuration_of(r: ConfigurationRecord) -> Configuration
+    ensures { λ c. ⌜ c ≡ records.configurationOf r ⌝ }
+{
+    let layout = r.layout;
+    let signature = signature_of(r.signature);
+    Configuration { signature, layout }
+}
+
+pub(crate) fn key_numbers(r: KeyRecord) -> Numbers
+    ensures { λ n. ⌜ n ≡ records.keyNumbers r ⌝ }
+{
+    Numbers {
+        kind: r.error_type,
+        actual: r.error_actual,
+        expected: r.error_expected,
+        offset: r.error_offset,
+    }
+}
+
+pub(crate) fn key_of(r: KeyRecord) -> Key
+    ensures { λ k. ⌜ k ≡ records.keyOf r ⌝ }
+{
+    let layout = r.layout;
+    let signature = signature_of(r.signature);
+    let slot = slot_of(key_numbers(r));
+    Key {
+        configured: r.configured == 1,
+        memory_length: r.memory_length,
+        layout,
+        signature,
+        slot,
+    }
+}
+
+pub(crate) fn key_record(k: Key) -> KeyRecord
+    ensures { λ r. ⌜ r ≡ records.keyRecord k ⌝ }
+{
+    let layout = k.layout;
+    let signature = signature_record(k.signature);
+    let slot = k.slot;
+    let n = numbers_of(slot);
+    KeyRecord {
+        seal: KEY_SEAL,
+        memory_length: k.memory_length,
+        layout,
+        signature,
+        configured: flag(k.configured),
+        error_type: n.kind,
+        error_actual: n.actual,
+        error_expected: n.expected,
+        error_offset: n.offset,
+    }
+}
+
+pub(crate) fn session_numbers(r: SessionRecord) -> Numbers
+    ensures { λ n. ⌜ n ≡ records.sessionNumbers r ⌝ }
+{
+    Numbers {
+        kind: r.error_type,
+        actual: r.error_actual,
+        expected: r.error_expected,
+        offset: r.error_offset,
+    }
+}
+
+pub(crate) fn session_of(r: SessionRecord) -> Session
+    ensures { λ s. ⌜ s ≡ records.sessionOf r ⌝ }
+{
+    let key = key_of(r.key);
+    let start = LayoutOffset::new(r.start);
+    let held = r.held;
+    let slot = slot_of(session_numbers(r));
+    let in_guard = Running {
+        value: r.input_guard,
+        odd: r.input_odd == 1,
+    };
+    let out_guard = Running {
+        value: r.output_guard,
+        odd: r.output_odd == 1,
+    };
+    let input = Side {
+        index: r.input_index,
+        at: r.input_at,
+        guard: in_guard,
+    };
+    let output = Side {
+        index: r.output_index,
+        at: r.output_at,
+        guard: out_guard,
+    };
+    let progress = Progress {
+        input,
+        output,
+        held,
+        slot,
+    };
+    Session {
+        key,
+        start,
+        length: r.length,
+        progress,
+    }
+}
+
+pub(crate) fn session_record(s: Session) -> SessionRecord
+    ensures { λ r. ⌜ r ≡ records.sessionRecord s ⌝ }
+{
+    let key = key_record(s.key);
+    let start = s.start;
+    let progress = s.progress;
+    let held = progress.held;
+    let slot = progress.slot;
+    let n = numbers_of(slot);
+    let input = progress.input;
+    let output = progress.output;
+    let in_guard = input.guard;
+    let out_guard = output.guard;
+    SessionRecord {
+        seal: SESSION_SEAL,
+        key,
+        start: start.number(),
+        length: s.length,
+        input_index: input.index,
+        input_at: input.at,
+        output_index: output.index,
+        output_at: output.at,
+        input_guard: in_guard.value,
+        output_guard: out_guard.value,
+        input_odd: flag(in_guard.odd),
+        output_odd: flag(out_guard.odd),
+        error_type: n.kind,
+        error_actual: n.actual,
+        error_expected: n.expected,
+        error_offset: n.offset,
+        held,
+    }
+}

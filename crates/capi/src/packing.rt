@@ -1,0 +1,160 @@
+// Receive by packets.
+ghost use mathlib.Core.Path.{_≡_};
+ghost use lib.ListN.{length};
+ghost use Rattle.capi.specs.Border as border;
+use crate::AbandonedRecord;
+use crate::FinishedRecord;
+use crate::KeyRecord;
+use crate::NOT_A_KEY;
+use crate::NOT_A_SESSION;
+use crate::OpenedRecord;
+use crate::PackedRecord;
+use crate::SessionRecord;
+use crate::converting::key_of;
+use crate::converting::key_record;
+use crate::converting::session_of;
+use crate::converting::session_record;
+use crate::sealing::is_key;
+use crate::sealing::is_session;
+use crate::transferring::wide;
+use key::Outcome;
+use layout::LayoutOffset;
+use packets::Finished;
+use packets::Opened;
+
+// A record that is no session: it bears no seal.
+fn no_session(key: KeyRecord) -> SessionRecord
+    ensures { λ r. ⌜ r ≡ border.noSession key ⌝ }
+{
+    SessionRecord {
+        seal: 0,
+        key,
+        start: 0,
+        length: 0,
+        input_index: 0,
+        input_at: 0,
+        output_index: 0,
+        output_at: 0,
+        input_guard: 0,
+        output_guard: 0,
+        input_odd: 0,
+        output_odd: 0,
+        error_type: 0,
+        error_actual: 0,
+        error_expected: 0,
+        error_offset: 0,
+        held: [0; 8],
+    }
+}
+
+fn session_opened(o: Opened) -> SessionRecord
+    ensures { λ r. ⌜ r ≡ border.sessionOpened (o .outcome) o ⌝ }
+{
+    let outcome = o.outcome;
+    match outcome {
+        Outcome::Done => session_record(o.session),
+        Outcome::Refused(_) => no_session(key_record(o.key)),
+    }
+}
+
+fn session_finished(f: Finished) -> SessionRecord
+    ensures { λ r. ⌜ r ≡ border.sessionFinished (f .outcome) f ⌝ }
+{
+    let outcome = f.outcome;
+    match outcome {
+        Outcome::Done => no_session(key_record(f.key)),
+        Outcome::Refused(_) => session_record(f.session),
+    }
+}
+
+#[no_mangle]
+pub extern "C" fn garoalva_open(
+    key: KeyRecord,
+    memory: &[u8],
+    offset: u64,
+    data_length: u64,
+) -> OpenedRecord
+    ensures { λ r. ⌜ r ≡ border.opened key (length (now (memory .entry))) offset «data_length» ⌝ }
+{
+    if is_key(key) {
+        let o = packets::open(key_of(key), memory, LayoutOffset::new(offset), data_length);
+        let outcome = o.outcome;
+        return OpenedRecord {
+            key: key_record(o.key),
+            session: session_opened(o),
+            answer: wide(key::number(outcome)),
+        };
+    }
+    OpenedRecord {
+        key,
+        session: no_session(key),
+        answer: NOT_A_KEY,
+    }
+}
+
+#[no_mangle]
+pub extern "C" fn garoalva_packet(
+    session: SessionRecord,
+    memory: &mut [u8],
+    bytes: &[u8],
+) -> PackedRecord
+    ensures { λ r. ⌜ r ≡ border.packed session (length (now (memory .entry))) (now (bytes .entry)) ⌝ }
+    ensures { λ _. ⌜ now (memory .exit) ≡ border.memoryThen session (now (memory .entry)) (now (bytes .entry)) ⌝ }
+{
+    if is_session(session) {
+        let p = packets::packet(session_of(session), memory, bytes);
+        let outcome = p.outcome;
+        return PackedRecord {
+            session: session_record(p.session),
+            answer: wide(key::number(outcome)),
+            taken: p.taken,
+            written: p.written,
+        };
+    }
+    PackedRecord {
+        session,
+        answer: NOT_A_SESSION,
+        taken: 0,
+        written: 0,
+    }
+}
+
+#[no_mangle]
+pub extern "C" fn garoalva_finish(session: SessionRecord) -> FinishedRecord
+    ensures { λ r. ⌜ r ≡ border.finished session ⌝ }
+{
+    if is_session(session) {
+        let f = packets::finish(session_of(session));
+        let outcome = f.outcome;
+        return FinishedRecord {
+            key: key_record(f.key),
+            session: session_finished(f),
+            answer: wide(key::number(outcome)),
+        };
+    }
+    let key = session.key;
+    FinishedRecord {
+        key,
+        session,
+        answer: NOT_A_SESSION,
+    }
+}
+
+#[no_mangle]
+pub extern "C" fn garoalva_abandon(session: SessionRecord) -> AbandonedRecord
+    ensures { λ r. ⌜ r ≡ border.abandoned session ⌝ }
+{
+    if is_session(session) {
+        let a = packets::abandon(session_of(session));
+        let outcome = a.outcome;
+        return AbandonedRecord {
+            key: key_record(a.key),
+            answer: wide(key::number(outcome)),
+        };
+    }
+    let key = session.key;
+    AbandonedRecord {
+        key,
+        answer: NOT_A_SESSION,
+    }
+}

@@ -1,0 +1,53 @@
+// Which records are a key or a session.
+ghost use mathlib.Core.Path.{_≡_};
+ghost use lib.ListN.{length};
+ghost use Rattle.capi.specs.Records as records;
+use crate::KEY_SEAL;
+use crate::KeyRecord;
+use crate::SESSION_SEAL;
+use crate::SessionRecord;
+use crate::converting;
+use crate::converting::Numbers;
+
+fn alike(m: Numbers, n: Numbers) -> bool
+    ensures { λ r. ⌜ r ≡ records.alike m n ⌝ }
+{
+    (m.kind == n.kind)
+        & (m.actual == n.actual)
+        & (m.expected == n.expected)
+        & (m.offset == n.offset)
+}
+
+// Whether the numbers of an error slot are those that a slot has.
+fn proper(n: Numbers) -> bool
+    ensures { λ r. ⌜ r ≡ records.proper n ⌝ }
+{
+    alike(n, converting::numbers_of(converting::slot_of(n)))
+}
+
+fn is_flag(n: u32) -> bool
+    ensures { λ r. ⌜ r ≡ records.isFlag n ⌝ }
+{
+    n == converting::flag(n == 1)
+}
+
+pub(crate) fn is_key(r: KeyRecord) -> bool
+    ensures { λ b. ⌜ b ≡ records.isKey r ⌝ }
+{
+    let whole = (r.seal == KEY_SEAL) & is_flag(r.configured) & (r.signature.spare == 0);
+    whole & proper(converting::key_numbers(r)) & key::usable(converting::key_of(r))
+}
+
+pub(crate) fn is_session(r: SessionRecord) -> bool
+    ensures { λ b. ⌜ (b ≡ records.isSession r) × (length (r .held) ≡ 8) ⌝ }
+{
+    let held = r.held;
+    packets::eight(held);
+    if is_key(r.key) {
+        let whole = (r.seal == SESSION_SEAL) & is_flag(r.input_odd) & is_flag(r.output_odd);
+        return whole
+            & proper(converting::session_numbers(r))
+            & packets::under_way(converting::session_of(r));
+    }
+    false
+}

@@ -1,0 +1,142 @@
+// The calls on a key.
+ghost use mathlib.Core.Path.{_≡_};
+ghost use lib.ListN.{length};
+ghost use Rattle.key.specs.Keys.{freshKey};
+ghost use Rattle.capi.specs.Records.{keyRecord};
+ghost use Rattle.capi.specs.Border as border;
+use crate::CheckedRecord;
+use crate::ConfigurationRecord;
+use crate::ConfiguredRecord;
+use crate::KeyRecord;
+use crate::NOT_A_KEY;
+use crate::TransferredRecord;
+use crate::converting;
+use crate::converting::key_of;
+use crate::converting::key_record;
+use crate::sealing::is_key;
+use layout::LayoutOffset;
+use transfer::Transferred;
+
+// 01's number, as wide as every number of an answer.
+pub(crate) fn wide(n: u32) -> u64
+    ensures { λ r. ⌜ r ≡ n ⌝ }
+{
+    n as u64
+}
+
+#[no_mangle]
+pub extern "C" fn garoalva_fresh() -> KeyRecord
+    ensures { λ r. ⌜ r ≡ keyRecord freshKey ⌝ }
+{
+    key_record(key::fresh())
+}
+
+#[no_mangle]
+pub extern "C" fn garoalva_configure(
+    key: KeyRecord,
+    memory: &[u8],
+    configuration: ConfigurationRecord,
+) -> ConfiguredRecord
+    ensures { λ r. ⌜ r ≡ border.configured key (length (now (memory .entry))) configuration ⌝ }
+{
+    if is_key(key) {
+        let c = key::configure(
+            key_of(key),
+            memory,
+            converting::configuration_of(configuration),
+        );
+        let outcome = c.outcome;
+        return ConfiguredRecord {
+            key: key_record(c.key),
+            answer: wide(key::number(outcome)),
+        };
+    }
+    ConfiguredRecord {
+        key,
+        answer: NOT_A_KEY,
+    }
+}
+
+fn transferred(t: Transferred) -> TransferredRecord
+    ensures { λ r. ⌜ r ≡ border.transferredRecord t ⌝ }
+{
+    let outcome = t.outcome;
+    TransferredRecord {
+        key: key_record(t.key),
+        answer: wide(key::number(outcome)),
+        taken: t.taken,
+        written: t.written,
+    }
+}
+
+fn not_a_key(key: KeyRecord) -> TransferredRecord
+    ensures { λ r. ⌜ r ≡ border.notTransferred key ⌝ }
+{
+    TransferredRecord {
+        key,
+        answer: NOT_A_KEY,
+        taken: 0,
+        written: 0,
+    }
+}
+
+#[no_mangle]
+pub extern "C" fn garoalva_send(
+    key: KeyRecord,
+    memory: &[u8],
+    wire: &mut [u8],
+    offset: u64,
+    data_length: u64,
+) -> TransferredRecord
+    ensures { λ r. ⌜ r ≡ border.sent key (now (memory .entry)) (now (wire .entry)) offset «data_length» ⌝ }
+    ensures { λ _. ⌜ now (wire .exit) ≡ border.wireAfter key (now (memory .entry)) (now (wire .entry)) offset «data_length» ⌝ }
+{
+    if is_key(key) {
+        let x = LayoutOffset::new(offset);
+        return transferred(transfer::send(key_of(key), memory, wire, x, data_length));
+    }
+    not_a_key(key)
+}
+
+#[no_mangle]
+pub extern "C" fn garoalva_receive(
+    key: KeyRecord,
+    memory: &mut [u8],
+    wire: &[u8],
+    offset: u64,
+    data_length: u64,
+) -> TransferredRecord
+    ensures { λ r. ⌜ r ≡ border.received key (now (memory .entry)) (now (wire .entry)) offset «data_length» ⌝ }
+    ensures { λ _. ⌜ now (memory .exit) ≡ border.memoryAfter key (now (memory .entry)) (now (wire .entry)) offset «data_length» ⌝ }
+{
+    if is_key(key) {
+        let x = LayoutOffset::new(offset);
+        return transferred(transfer::receive(key_of(key), memory, wire, x, data_length));
+    }
+    not_a_key(key)
+}
+
+#[no_mangle]
+pub extern "C" fn garoalva_check(key: KeyRecord) -> CheckedRecord
+    ensures { λ r. ⌜ r ≡ border.checked key ⌝ }
+{
+    if is_key(key) {
+        let c = key::check(key_of(key));
+        return CheckedRecord {
+            key: key_record(c.key),
+            answer: 0,
+            kind: wide(c.kind),
+            actual: wide(c.actual),
+            expected: wide(c.expected),
+            offset: c.offset,
+        };
+    }
+    CheckedRecord {
+        key,
+        answer: NOT_A_KEY,
+        kind: 0,
+        actual: 0,
+        expected: 0,
+        offset: 0,
+    }
+}

@@ -1,0 +1,16 @@
+// replay: makes the calls that its standard input lists, through the C interface, and prints what each answers and what memory and wire hold then. The list
+// and the right answers are written by tests/reference; README there says what the lines mean.
+mod buffers;
+mod calls;
+mod lines;
+mod settings;
+
+use libc::STDIN_FILENO;
+
+fn main() {
+    let mut text = [0u8; 262144];
+    let n = io::read_full(STDIN_FILENO, &mut text);
+    let mut memory = [0u8; 16384];
+    let mut wire = [0u8; 16384];
+    calls::play(&text[..n], &mut memory, &mut wire);
+}

@@ -1,0 +1,12 @@
+use borrow.Author.Needs.{needs}
+use Rattle.wirecheck.proofs.setup.signature.Statement.{statement}
+use Rattle.wirecheck.proofs.setup.signature.Tie as tie
+
+unsigned-requires : tie.Need-unsigned-requires
+unsigned-requires c κs = search needs
+
+returns : tie.Need-returns
+returns c = rw (c .unsigned .ensures)
+
+pub signature-spec : {M : Type 1} → statement M
+signature-spec = tie.close (tie.spec unsigned-requires returns)
