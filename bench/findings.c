@@ -1,0 +1,66 @@
+#include "findings.h"
+#include <stdio.h>
+
+const size_t block_sizes[BLOCK_SIZES] = {512, 520, 4096, 4160};
+const size_t plain_counts[PLAIN_COUNTS] = {1, 4, 16, 64, 256, 1024};
+
+/* Above this factor we no longer call a cost flat. */
+static const double flat = 1.25;
+
+static void keep(struct finding *f, double value, const char *where) {
+    f->value = value;
+    f->seen = true;
+    snprintf(f->where, sizeof f->where, "%s", where);
+}
+
+void keep_highest(struct finding *f, double value, const char *where) {
+    if (!f->seen || value > f->value)
+        keep(f, value, where);
+}
+
+void keep_lowest(struct finding *f, double value, const char *where) {
+    if (!f->seen || value < f->value)
+        keep(f, value, where);
+}
+
+static void print_verdict(const char *claim, const char *of, const struct finding *f, bool holds) {
+    if (f->seen)
+        printf("| %s%s | %.2f (%s) | %s |\n", claim, of, f->value, f->where, holds ? "holds" : "**does not hold**");
+}
+
+static void print_at_most(const char *claim, const struct finding per_signing[SIGNINGS], double limit) {
+    for (enum signing i = PLAIN; i < SIGNINGS; i++)
+        print_verdict(claim, signing_names[i], &per_signing[i], per_signing[i].value <= limit);
+}
+
+/* Speeds next to a peer's, each with the size that it was measured at. */
+static void print_at_least(const char *claim, const struct finding *found, const size_t *sizes, size_t count,
+                           double limit) {
+    for (size_t i = 0; i < count; i++) {
+        char of[32];
+        snprintf(of, sizeof of, "%zu", sizes[i]);
+        print_verdict(claim, of, &found[i], found[i].value >= limit);
+    }
+}
+
+static void print_reported(const char *what, const struct finding *f) {
+    if (f->seen)
+        printf("| %s | %.3f (%s) | reported, not held to anything |\n", what, f->value, f->where);
+}
+
+void print_verdicts(const struct findings *f) {
+    printf("\n## What it must show\n\n"
+           "Each line has the worst figure measured. Flat: within %.2f.\n\n"
+           "| Claim | Measured | Verdict |\n|---|---|---|\n",
+           flat);
+    print_at_most("Cost per byte flat from 64 KiB to 16 MiB, over the same memory: ", f->call_growth, flat);
+    print_at_most("Cost per byte flat from 64 KiB to 16 MiB, in buffers of their own: ", f->length_growth, flat);
+    print_at_least("Unsigned transfers at 0.5 of memcpy or better at pieces of 4,096 bytes, so many of them: ",
+                   f->plain_to_memcpy, plain_counts, PLAIN_COUNTS, 0.5);
+    print_at_least("Checksum guard faster than a byte-wise C loop, blocks of ", f->checksum_to_loop, block_sizes,
+                   BLOCK_SIZES, 1);
+    print_at_most("Packets of 1,500 bytes within 1.3 of the one-call time: ", f->packets_to_call, 1.3);
+    print_at_most("No growth with the number of packets before: ", f->later_packets, flat);
+    print_reported("CRC next to the table loop", &f->crc_to_loop);
+    print_reported("CRC next to ISA-L's crc16_t10dif_copy", &f->crc_to_isal_copy);
+}

@@ -1,0 +1,63 @@
+#include "ours.h"
+
+static size_t layout_offset(const struct scene *s, size_t call) {
+    return call * (s->shape.blocks / s->calls) * s->memory_unit;
+}
+
+static garoalva_transferred moved(struct scene *s, enum direction direction, size_t call) {
+    size_t offset = layout_offset(s, call), data = s->data_length / s->calls;
+    size_t wire_length = s->wire_length / s->calls;
+    uint8_t *wire = s->wire + call * wire_length;
+    if (direction == SEND)
+        return garoalva_send(s->key, s->memory, s->memory_length, wire, wire_length, offset, data);
+    return garoalva_receive(s->key, s->memory, s->memory_length, wire, wire_length, offset, data);
+}
+
+void run_ours(struct scene *s, enum direction direction) {
+    for (size_t call = 0; call < s->calls; call++) {
+        garoalva_transferred transferred = moved(s, direction, call);
+        if (transferred.answer != GAROALVA_DONE)
+            fail("a transfer was refused", s);
+        s->key = transferred.key;
+    }
+}
+
+garoalva_session opened_session(struct scene *s, size_t call) {
+    garoalva_opened opened =
+        garoalva_open(s->key, s->memory, s->memory_length, layout_offset(s, call), s->data_length / s->calls);
+    if (opened.answer != GAROALVA_DONE)
+        fail("open was refused", s);
+    return opened.session;
+}
+
+garoalva_session fed_packets(struct scene *s, garoalva_session session, size_t from, size_t to) {
+    while (from < to) {
+        size_t length = to - from < PACKET ? to - from : PACKET;
+        garoalva_packed packed = garoalva_packet(session, s->memory, s->memory_length, s->wire + from, length);
+        if (packed.answer != GAROALVA_DONE)
+            fail("a packet was refused", s);
+        session = packed.session;
+        from += length;
+    }
+    return session;
+}
+
+void finish_session(struct scene *s, garoalva_session session) {
+    garoalva_finished finished = garoalva_finish(session);
+    if (finished.answer != GAROALVA_DONE)
+        fail("finish was refused", s);
+    s->key = finished.key;
+}
+
+void run_packets(struct scene *s, enum direction direction) {
+    (void)direction;
+    size_t share = s->wire_length / s->calls;
+    for (size_t call = 0; call < s->calls; call++)
+        finish_session(s, fed_packets(s, opened_session(s, call), call * share, (call + 1) * share));
+}
+
+bool found_error(struct scene *s) {
+    garoalva_checked checked = garoalva_check(s->key);
+    s->key = checked.key;
+    return checked.answer != GAROALVA_DONE || checked.type != GAROALVA_ERROR_NONE;
+}

@@ -1,0 +1,30 @@
+/* What we are measured next to: each does the whole job of a scene, block by block. */
+#ifndef PEERS_H
+#define PEERS_H
+
+#include "scene.h"
+
+#ifdef HAVE_ISAL
+#define ISAL_MISSING false
+#else
+#define ISAL_MISSING true
+#endif
+
+/* Before anything else here. */
+void make_crc_table(void);
+
+uint16_t table_crc(uint16_t seed, const uint8_t *data, size_t length);
+/* The field of the block with this index, and its last four bytes alone. */
+void put_field(uint8_t *field, uint16_t guard, size_t index);
+void put_reference(uint8_t *field, size_t index);
+
+/* A guard loop in plain C, then memcpy: a table CRC, or the checksum byte by byte. */
+void run_loop(struct scene *s, enum direction direction);
+/* ISA-L's crc16_t10dif, then memcpy; and its crc16_t10dif_copy. Not for checksums. */
+void run_isal(struct scene *s, enum direction direction);
+void run_isal_copy(struct scene *s, enum direction direction);
+/* The memory stream's bytes, piece by piece: no guards, no fields. What is signed stays as it is, and the bytes go to
+ * the spare buffer. */
+void run_memcpy(struct scene *s, enum direction direction);
+
+#endif

@@ -1,0 +1,24 @@
+/* The tables of the benchmark. Each prints itself and leaves its worst figures behind. */
+#ifndef TABLES_H
+#define TABLES_H
+
+#include "contest.h"
+#include "findings.h"
+
+enum { KIB = 1024, MIB = 1024 * 1024 };
+
+/* Every signing, direction, block size and layout, next to the peers. */
+void print_transfers(struct effort effort, struct findings *f);
+/* Unsigned transfers over pieces of 4,096 bytes. */
+void print_plain_pieces(struct effort effort, struct findings *f);
+
+/* Transfers of 64 KiB to 16 MiB, each in buffers of its own. */
+void print_lengths(struct effort effort, struct findings *f);
+/* The same 16 MiB moved by calls of 64 KiB to 16 MiB. */
+void print_call_sizes(struct effort effort, struct findings *f);
+/* 4 MiB in 1 to 1,024 pieces. */
+void print_pieces(struct effort effort);
+/* What a packet costs as more and more have come before it. */
+void print_later_packets(struct effort effort, struct findings *f);
+
+#endif

@@ -1,0 +1,121 @@
+/* Our transfers next to the peers. */
+#include "ours.h"
+#include "peers.h"
+#include "tables.h"
+#include <stdio.h>
+
+enum { MANY_PIECES = 64 };
+
+static const char *const direction_names[] = {"send", "receive"};
+
+static double megabytes_per_second(const struct scene *s, double seconds) {
+    return (double)s->data_length / seconds * 1e-6;
+}
+
+static void print_speed(const struct scene *s, double seconds) {
+    if (seconds > 0)
+        printf(" %8.0f |", megabytes_per_second(s, seconds));
+    else
+        printf(" %8s |", "-");
+}
+
+static void print_ratio(double peer, double ours) {
+    if (peer > 0)
+        printf(" %7.3f |", peer / ours);
+    else
+        printf(" %7s |", "-");
+}
+
+static void print_row(const struct scene *s, const char *name, struct times t, enum contender us) {
+    printf("| %-7s | %-20s | %6zu |", name, signing_names[s->shape.signing], s->shape.pieces);
+    print_speed(s, t.seconds[us]);
+    for (enum contender c = LOOP; c < CONTENDERS; c++)
+        print_speed(s, t.seconds[c]);
+    for (enum contender c = LOOP; c < CONTENDERS; c++)
+        print_ratio(t.seconds[c], t.seconds[us]);
+    if (us == PACKETS)
+        printf(" %8.2f |\n", t.seconds[PACKETS] / t.seconds[OURS]);
+    else
+        printf(" %8s |\n", "");
+}
+
+static const char *place(const struct scene *s, const char *name, double seconds) {
+    static char text[80];
+    snprintf(text, sizeof text, "%s, blocks of %zu, pieces: %zu, %.0f MB/s", name, s->shape.block, s->shape.pieces,
+             megabytes_per_second(s, seconds));
+    return text;
+}
+
+static void keep_ratios(const struct scene *s, enum direction direction, struct times t, struct findings *f) {
+    const double ours = t.seconds[OURS], packets = t.seconds[PACKETS];
+    const char *where = place(s, direction_names[direction], ours);
+    enum signing signing = s->shape.signing;
+    bool crc = signing == CRC_ZERO || signing == CRC_ONES;
+    for (size_t i = 0; i < BLOCK_SIZES; i++) {
+        if (signing == CHECKSUM && s->shape.block == block_sizes[i])
+            keep_lowest(&f->checksum_to_loop[i], t.seconds[LOOP] / ours, where);
+    }
+    if (crc)
+        keep_lowest(&f->crc_to_loop, t.seconds[LOOP] / ours, where);
+    if (crc && !ISAL_MISSING)
+        keep_lowest(&f->crc_to_isal_copy, t.seconds[ISAL_COPY] / ours, where);
+    if (direction == RECEIVE)
+        keep_highest(&f->packets_to_call[signing], packets / ours, place(s, "packets", packets));
+}
+
+static void print_scene(struct shape shape, struct effort effort, struct findings *f) {
+    struct scene s = scene_made(shape);
+    for (enum direction direction = SEND; direction <= RECEIVE; direction++) {
+        verify(&s, direction);
+        struct times t = measured(&s, direction, effort);
+        print_row(&s, direction_names[direction], t, OURS);
+        if (direction == RECEIVE)
+            print_row(&s, "packets", t, PACKETS);
+        keep_ratios(&s, direction, t, f);
+    }
+    scene_freed(&s);
+    fflush(stdout);
+}
+
+static void print_block_size(size_t block, struct effort effort, struct findings *f) {
+    size_t data = effort.quick ? 300000 : 1200000;
+    size_t blocks = data / block / MANY_PIECES * MANY_PIECES;
+    printf("\n### Blocks of %zu bytes, %zu of them\n\n"
+           "| call    | signed               | pieces |     ours |   C loop |    ISA-L | ISA-L cp |   memcpy "
+           "|  / loop | / ISA-L |    / cp | /memcpy | one call |\n"
+           "|---|---|---:|---:|---:|---:|---:|---:|---:|---:|---:|---:|---:|\n",
+           block, blocks);
+    for (enum signing signing = PLAIN; signing < SIGNINGS; signing++) {
+        print_scene((struct shape){signing, block, blocks, 1}, effort, f);
+        print_scene((struct shape){signing, block, blocks, MANY_PIECES}, effort, f);
+    }
+}
+
+void print_transfers(struct effort effort, struct findings *f) {
+    printf("\n## Transfers, in MB of data per second\n\n"
+           "Each row is the whole job: guard, copy and field for each block. So a guard's own cost is the difference\n"
+           "to the plain row of the same call. C loop: a table CRC or a byte-wise checksum, then memcpy. ISA-L: its\n"
+           "crc16_t10dif, then memcpy. ISA-L cp: its crc16_t10dif_copy. memcpy: the bytes alone, piece by piece.\n"
+           "Then our speed as a ratio to each. Packets have %d bytes; one call: their time to that of one receive.\n",
+           PACKET);
+    for (size_t i = 0; i < BLOCK_SIZES; i++)
+        print_block_size(block_sizes[i], effort, f);
+}
+
+void print_plain_pieces(struct effort effort, struct findings *f) {
+    printf("\n## Unsigned transfers over pieces of 4,096 bytes, in MB per second\n\n"
+           "| call    | pieces |     ours |   memcpy | /memcpy |\n|---|---:|---:|---:|---:|\n");
+    for (size_t i = 0; i < PLAIN_COUNTS; i++) {
+        struct scene s = scene_made((struct shape){PLAIN, 4096, plain_counts[i], plain_counts[i]});
+        for (enum direction direction = SEND; direction <= RECEIVE; direction++) {
+            struct times t = measured(&s, direction, effort);
+            printf("| %-7s | %6zu |", direction_names[direction], plain_counts[i]);
+            print_speed(&s, t.seconds[OURS]);
+            print_speed(&s, t.seconds[MEMCPY]);
+            print_ratio(t.seconds[MEMCPY], t.seconds[OURS]);
+            puts("");
+            keep_lowest(&f->plain_to_memcpy[i], t.seconds[MEMCPY] / t.seconds[OURS], direction_names[direction]);
+        }
+        scene_freed(&s);
+    }
+}

@@ -1,0 +1,87 @@
+//! What a key is configured with.
+
+use std::ops::BitOr;
+
+use crate::{ffi, Domain, Layout};
+
+/// Bytes of a field, a bit for each: bit 7 stands for the first byte, bit 0 for the last.
+#[derive(Clone, Copy, Debug, PartialEq, Eq)]
+pub struct Mask(pub u8);
+
+impl Mask {
+    /// No byte.
+    pub const NONE: Mask = Mask(0);
+    /// The two bytes of the guard.
+    pub const GUARD: Mask = Mask(0xC0);
+    /// The two bytes of the application tag.
+    pub const APPLICATION: Mask = Mask(0x30);
+    /// The four bytes of the reference tag.
+    pub const REFERENCE: Mask = Mask(0x0F);
+    /// All eight bytes.
+    pub const ALL: Mask = Mask(0xFF);
+}
+
+impl BitOr for Mask {
+    type Output = Mask;
+
+    fn bitor(self, other: Mask) -> Mask {
+        Mask(self.0 | other.0)
+    }
+}
+
+/// Which bytes of an output field are copied from the input field. The others are generated.
+#[derive(Clone, Copy, Debug, PartialEq, Eq)]
+pub enum Copying {
+    /// Those on which the two domains agree; none if one of them has no signature.
+    Automatic,
+    /// These. Both domains must be T10-DIF with one block size.
+    Given(Mask),
+}
+
+/// The two domains, and what is checked and copied between them.
+#[derive(Clone, Copy, Debug, PartialEq, Eq)]
+pub struct Signature {
+    /// The stream in memory.
+    pub memory: Domain,
+    /// The stream on the wire.
+    pub wire: Domain,
+    /// The bytes of an input field that are checked.
+    pub check: Mask,
+    /// The bytes of an input field that are copied.
+    pub copy: Copying,
+}
+
+/// What a key is configured with.
+#[derive(Clone, Copy, Debug, PartialEq, Eq)]
+pub struct Configuration {
+    /// Where the memory stream lies.
+    pub layout: Layout,
+    /// What the streams hold.
+    pub signature: Signature,
+}
+
+impl Configuration {
+    pub(crate) fn raw(&self) -> ffi::Configuration {
+        ffi::Configuration {
+            layout: self.layout.raw(),
+            signature: self.signature.raw(),
+        }
+    }
+}
+
+impl Signature {
+    fn raw(&self) -> ffi::Signature {
+        let (attribute_flags, copy_mask) = match self.copy {
+            Copying::Automatic => (0, 0),
+            Copying::Given(mask) => (1, mask.0),
+        };
+        ffi::Signature {
+            memory: self.memory.raw(),
+            wire: self.wire.raw(),
+            attribute_flags,
+            check_mask: self.check.0,
+            copy_mask,
+            spare: 0,
+        }
+    }
+}

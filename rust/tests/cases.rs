@@ -1,0 +1,165 @@
+//! The rule book's cases, through the crate.
+
+mod common;
+
+use common::{case_a, configuration, configured, signed, totals, DATA, START, WIRE};
+use garoalva::*;
+
+fn received(configuration: &Configuration, wire: &[u8]) -> Option<BlockError> {
+    let mut memory = [0xAA; 16];
+    let mut key = configured(&memory, configuration);
+    assert_eq!(key.receive(&mut memory, wire, START, 16), totals(32, 16));
+    assert_eq!(memory[..8], wire[..8]);
+    assert_eq!(memory[8..], wire[16..24]);
+    key.check()
+}
+
+fn damaged() -> [u8; 32] {
+    let mut wire = WIRE;
+    wire[23] = 2;
+    wire
+}
+
+fn escaped() -> ([u8; 32], Configuration) {
+    let mut wire = WIRE;
+    wire[8..12].copy_from_slice(&[0xDE, 0xAD, 0xFF, 0xFF]);
+    let domain = T10Dif {
+        escape: Escape::Application,
+        ..signed()
+    };
+    (wire, configuration(Layout::contiguous(16), Domain::None, domain.into()))
+}
+
+#[test]
+fn case_a_sends_the_fields_and_nothing_past_the_stream() {
+    let mut wire = [0xEE; 40];
+    let mut key = configured(&DATA, &case_a());
+    assert_eq!(key.send(&DATA, &mut wire, START, 16), totals(16, 32));
+    assert_eq!(wire[..32], WIRE);
+    assert_eq!(wire[32..], [0xEE; 8]);
+    assert_eq!(key.check(), None);
+}
+
+#[test]
+fn case_b_has_no_error() {
+    assert_eq!(received(&case_a(), &WIRE), None);
+}
+
+#[test]
+fn case_c_is_a_guard_error() {
+    let error = BlockError {
+        field: Field::Guard,
+        actual: 0x9CD9,
+        expected: 0,
+        offset: 16,
+    };
+    assert_eq!(received(&case_a(), &damaged()), Some(error));
+}
+
+#[test]
+fn case_d_leaves_the_guard_out() {
+    let mut configuration = case_a();
+    configuration.signature.check = Mask::APPLICATION | Mask::REFERENCE;
+    assert_eq!(received(&configuration, &damaged()), None);
+}
+
+#[test]
+fn case_h_is_an_application_error() {
+    let (wire, configuration) = escaped();
+    let error = BlockError {
+        field: Field::ApplicationTag,
+        actual: 0x1234,
+        expected: 0xFFFF,
+        offset: 0,
+    };
+    assert_eq!(received(&configuration, &wire), Some(error));
+}
+
+#[test]
+fn case_i_leaves_the_application_tag_out() {
+    let (wire, mut configuration) = escaped();
+    configuration.signature.check = Mask::GUARD | Mask::REFERENCE;
+    assert_eq!(received(&configuration, &wire), None);
+}
+
+#[test]
+fn a_wrong_reference_tag_is_told_in_words() {
+    let mut wire = WIRE;
+    wire[31] = 9;
+    let error = received(&case_a(), &wire).unwrap();
+    assert_eq!(error.field, Field::ReferenceTag);
+    assert_eq!(
+        error.to_string(),
+        "bad reference tag in the block at byte 16 of the input stream: \
+         its field says 0x00000009, the rule gives 0x00000000"
+    );
+}
+
+#[test]
+fn checksums_differ_by_seed_on_zeros_alone() {
+    let fields = [
+        ([0; 8], Seed::Zero, [0xFF, 0xFF]),
+        ([0; 8], Seed::Ones, [0x00, 0x00]),
+        ([0, 1, 0, 2, 0, 3, 0, 4], Seed::Zero, [0xFF, 0xF5]),
+        ([0, 1, 0, 2, 0, 3, 0, 4], Seed::Ones, [0xFF, 0xF5]),
+        ([0xFF, 0xFF, 0, 1, 0, 0, 0, 0], Seed::Zero, [0xFF, 0xFE]),
+    ];
+    for (memory, seed, guard) in fields {
+        let domain = T10Dif {
+            guard: Guard::Checksum,
+            seed,
+            ..signed()
+        };
+        let mut key = configured(
+            &memory,
+            &configuration(Layout::contiguous(8), Domain::None, domain.into()),
+        );
+        let mut wire = [0; 16];
+        assert_eq!(key.send(&memory, &mut wire, START, 8), totals(8, 16));
+        assert_eq!(wire[8..10], guard);
+    }
+}
+
+#[test]
+fn case_j_walks_entries_then_repeats() {
+    let entry = |start, count, skip| Entry {
+        start: MemoryOffset(start),
+        count,
+        skip,
+    };
+    let layout = Layout::new(&[entry(0, 512, 4), entry(1028, 8, 0)], 2);
+    let mut memory = [0; 1044];
+    memory[1028] = 1;
+    memory[516] = 2;
+    let mut key = configured(&memory, &configuration(layout, Domain::None, Domain::None));
+    let mut wire = [0; 1040];
+    assert_eq!(key.send(&memory, &mut wire, START, 1040), totals(1040, 1040));
+    assert_eq!((wire[512], wire[520]), (1, 2));
+}
+
+#[test]
+fn a_given_copy_mask_keeps_a_spoilt_guard() {
+    let mut configuration = configuration(Layout::contiguous(32), signed().into(), signed().into());
+    configuration.signature.copy = Copying::Given(Mask::GUARD);
+    let mut memory = [0; 32];
+    let mut key = configured(&memory, &configuration);
+    assert_eq!(key.receive(&mut memory, &damaged(), START, 16), totals(32, 32));
+    assert_eq!(memory, damaged());
+    configuration.signature.copy = Copying::Given(Mask::NONE);
+    key.configure(&memory, &configuration).unwrap();
+    assert_eq!(key.receive(&mut memory, &damaged(), START, 16), totals(32, 32));
+    assert_eq!(memory[24..26], [0x9C, 0xD9]);
+}
+
+#[test]
+fn the_first_error_stays_until_check() {
+    let mut memory = [0; 16];
+    let mut key = configured(&memory, &case_a());
+    key.receive(&mut memory, &damaged(), START, 16).unwrap();
+    let mut other = WIRE;
+    other[0] = 1;
+    key.receive(&mut memory, &other, START, 16).unwrap();
+    key.configure(&memory, &case_a()).unwrap();
+    assert_eq!(key.check().map(|error| error.offset), Some(16));
+    assert_eq!(key.check(), None);
+}
