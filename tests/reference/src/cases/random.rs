@@ -1,0 +1,205 @@
+//! Random cases. Most start from a good configuration and a valid input stream, and go wrong from there by choice, so
+//! that few of them end at the first refusal.
+
+mod damage;
+mod layouts;
+pub mod plans;
+
+use super::{Case, Direction, Plan};
+use crate::rng::Rng;
+use crate::script::{Call, Machine, BUFFER_SIZE};
+
+/// The case of this seed and number.
+pub fn case(seed: u64, number: u64) -> Case {
+    let mut draft = Draft::new(Rng::of_case(seed, number));
+    for _ in 0..draft.rng.between(1, 3) {
+        match draft.rng.below(100) {
+            0..=39 => draft.transfer(),
+            40..=79 => draft.packets(),
+            80..=89 => draft.configurations(),
+            _ => draft.border_transfers(),
+        }
+    }
+    Case { name: format!("random case {number} of seed {seed}"), memory_size: BUFFER_SIZE, calls: draft.calls }
+}
+
+/// A case in the making, and the model's state after its calls.
+struct Draft {
+    rng: Rng,
+    machine: Machine,
+    calls: Vec<Call>,
+}
+
+impl Draft {
+    fn new(mut rng: Rng) -> Draft {
+        let (memory, wire) = (rng.below(1 << 32), rng.below(1 << 32));
+        let mut draft = Draft { rng, machine: Machine::new(BUFFER_SIZE, BUFFER_SIZE), calls: Vec::new() };
+        draft.make(Call::New);
+        draft.make(Call::FillMemory { pattern: memory });
+        draft.make(Call::FillWire { pattern: wire });
+        draft
+    }
+
+    /// Adds a call, unless it leaves the buffers or says nothing by demand 3's premise.
+    fn make(&mut self, call: Call) {
+        if self.machine.fits(&call) && self.machine.keeps_premise(&call) {
+            self.machine.run(&call);
+            self.calls.push(call);
+        }
+    }
+
+    fn make_all(&mut self, calls: impl IntoIterator<Item = Call>) {
+        for call in calls {
+            self.make(call);
+        }
+    }
+
+    fn make_sometimes(&mut self, chance: u64, call: Call) {
+        if self.rng.percent(chance) {
+            self.make(call);
+        }
+    }
+
+    fn direction(&mut self) -> Direction {
+        self.rng.pick(&[Direction::Send, Direction::Receive])
+    }
+
+    /// A plan whose input lies ready, valid or damaged, and whose configuration the key has.
+    fn prepared(&mut self, direction: Direction) -> Plan {
+        let plan = plans::plan(&mut self.rng);
+        self.make_all(plan.prepare(direction));
+        self.make(plan.configure());
+        if self.rng.percent(75) {
+            let damage = damage::damage(&mut self.rng, &plan, direction);
+            self.make_all(damage);
+        }
+        plan
+    }
+
+    /// One or two whole transfers, the second after more damage or the other way.
+    fn transfer(&mut self) {
+        let direction = self.direction();
+        let plan = self.prepared(direction);
+        self.make(plan.transfer(direction));
+        self.make_sometimes(60, Call::Check);
+        if self.rng.percent(30) {
+            let damage = damage::damage(&mut self.rng, &plan, direction);
+            self.make_all(damage);
+            let again = self.direction();
+            self.make(plan.transfer(again));
+        }
+        self.make_sometimes(80, Call::Check);
+    }
+
+    /// A received transfer in packets with refused calls between them.
+    fn packets(&mut self) {
+        let plan = self.prepared(Direction::Receive);
+        let mut at = 0;
+        self.make(plan.open());
+        for count in plans::packets(&mut self.rng, &plan) {
+            if self.rng.percent(12) {
+                self.refused_packet(&plan);
+            }
+            self.make_sometimes(4, Call::Finish);
+            self.make(plan.packet(at, count));
+            at += count;
+            // Bytes that were accepted are no longer looked at.
+            let byte = self.rng.byte();
+            self.make_sometimes(3, Call::SetWire { at: 0, count: at, byte });
+            if self.rng.percent(3) {
+                break;
+            }
+        }
+        self.end_session(&plan);
+    }
+
+    /// A packet that is too long, or lent a memory of another length.
+    fn refused_packet(&mut self, plan: &Plan) {
+        let left = self.machine.session.as_ref().map_or(0, |session| session.bytes_to_come() as u64);
+        let long = left + self.rng.pick(&[1, 1, 2, 8, 100]);
+        let other = self.rng.pick(&[0, plan.memory.saturating_sub(1), plan.memory + 1, BUFFER_SIZE as u64]);
+        let at = self.rng.below(8);
+        let (memory, count) = match self.rng.below(3) {
+            0 => (plan.memory, long),
+            1 => (other, self.rng.below(left + 1)),
+            _ => (other, long),
+        };
+        self.make(Call::Packet { memory, at, count });
+    }
+
+    fn end_session(&mut self, plan: &Plan) {
+        if self.rng.percent(15) {
+            self.refused_packet(plan);
+        }
+        let end = if self.rng.percent(75) { Call::Finish } else { Call::Abandon };
+        self.make(end);
+        // Finish is refused where packets were left out: the session must not stay under way.
+        if self.machine.session.is_some() || self.rng.percent(10) {
+            self.make(Call::Abandon);
+        }
+        self.make_sometimes(5, plan.packet(0, 1));
+        self.make_sometimes(5, Call::Finish);
+        self.make_sometimes(80, Call::Check);
+    }
+
+    /// Good, bad and boundary configurations in a row, and a transfer with the key that they leave.
+    fn configurations(&mut self) {
+        let plan = plans::plan(&mut self.rng);
+        for _ in 0..self.rng.between(1, 6) {
+            let changed = plans::spoiled(&mut self.rng, &plan);
+            self.make(changed.configure());
+            self.make_sometimes(20, Plan { memory: changed.memory, ..plan.clone() }.send());
+        }
+        let direction = self.direction();
+        self.make(plan.transfer(direction));
+        self.make(Call::Check);
+    }
+
+    /// Transfers and opens at and around the borders of their refusals.
+    fn border_transfers(&mut self) {
+        let direction = self.direction();
+        let plan = self.prepared(direction);
+        for _ in 0..self.rng.between(2, 8) {
+            let call = plans::border_call(&mut self.rng, &plan);
+            let opens = matches!(call, Call::Open { .. });
+            self.make(call);
+            if opens {
+                self.make_sometimes(50, plan.packet(0, 3));
+                self.make(Call::Abandon);
+            }
+        }
+        self.make_sometimes(70, Call::Check);
+    }
+}
+
+#[cfg(test)]
+mod tests {
+    use super::*;
+    use crate::model::answer;
+    use std::collections::BTreeMap;
+
+    /// How often each answer is given by transfers, opens and packets, and each type by checks.
+    fn outcomes(cases: u64) -> (BTreeMap<u64, usize>, [usize; 4]) {
+        let (mut answers, mut types) = (BTreeMap::new(), [0; 4]);
+        for number in 0..cases {
+            let mut machine = Machine::new(BUFFER_SIZE, BUFFER_SIZE);
+            for call in case(1, number).calls {
+                match machine.run(&call) {
+                    Some(numbers) if call == Call::Check => types[numbers[1] as usize] += 1,
+                    Some(numbers) => *answers.entry(numbers[0]).or_default() += 1,
+                    None => {}
+                }
+            }
+        }
+        (answers, types)
+    }
+
+    #[test]
+    fn most_random_cases_are_interesting() {
+        let (answers, types) = outcomes(1_000);
+        let wanted = (answer::DONE..=answer::NOT_CONFIGURED).chain([answer::NOT_A_SESSION]);
+        assert_eq!(answers.keys().copied().collect::<Vec<_>>(), wanted.collect::<Vec<_>>());
+        assert!(answers[&answer::DONE] > answers.values().sum::<usize>() / 2, "{answers:?}");
+        assert!(types.iter().all(|&checks| checks > 50), "{types:?}");
+    }
+}

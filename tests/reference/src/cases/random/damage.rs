@@ -1,0 +1,55 @@
+//! Damage to a valid input stream.
+
+use super::{Direction, Plan};
+use crate::model::{APPLICATION, FIELD_SIZE, GUARD, REFERENCE};
+use crate::rng::Rng;
+use crate::script::Call;
+use std::ops::Range;
+
+/// Calls that spoil, escape or half-escape one to four places of the input.
+pub fn damage(rng: &mut Rng, plan: &Plan, direction: Direction) -> Vec<Call> {
+    let size = plan.block_size().unwrap_or(1);
+    if plan.length < size as u64 {
+        return Vec::new();
+    }
+    let mut calls = Vec::new();
+    for _ in 0..rng.pick(&[1, 1, 1, 2, 2, 3, 4]) {
+        let block = rng.below(plan.length / size as u64);
+        let changes = if plan.input_domain(direction).signed() {
+            block_damage(rng, size)
+        } else {
+            vec![(rng.below(size as u64), rng.byte())]
+        };
+        let unit = plan.input_stream(direction) / (plan.length / size as u64);
+        let set = |(at, byte): (u64, u8)| plan.set_input(direction, block * unit + at, byte);
+        calls.extend(changes.into_iter().map(set));
+    }
+    calls
+}
+
+/// Changed bytes of one block with its field: place in the unit, and byte.
+fn block_damage(rng: &mut Rng, size: usize) -> Vec<(u64, u8)> {
+    let all_ones = |field: Range<usize>| field.map(|at| (at, 0xFF)).collect::<Vec<_>>();
+    let escape = all_ones(APPLICATION);
+    let whole_escape = all_ones(APPLICATION.start..REFERENCE.end);
+    let field_bytes = match rng.below(12) {
+        0 | 1 => return vec![(rng.below(size as u64), rng.byte())],
+        2 => some_byte(rng, GUARD),
+        3 => some_byte(rng, APPLICATION),
+        4 => some_byte(rng, REFERENCE),
+        5 => escape,
+        6 => [escape, some_byte(rng, GUARD)].concat(),
+        7 => whole_escape,
+        8 => [whole_escape, some_byte(rng, GUARD)].concat(),
+        // An escape of which one byte is missing.
+        9 => [whole_escape, some_byte(rng, GUARD), some_byte(rng, APPLICATION.start..REFERENCE.end)].concat(),
+        10 => [all_ones(REFERENCE), some_byte(rng, GUARD)].concat(),
+        _ => (0..FIELD_SIZE).map(|at| (at, rng.byte())).collect(),
+    };
+    field_bytes.into_iter().map(|(at, byte)| ((size + at) as u64, byte)).collect()
+}
+
+fn some_byte(rng: &mut Rng, field: Range<usize>) -> Vec<(usize, u8)> {
+    let at = field.start + rng.below(field.len() as u64) as usize;
+    vec![(at, rng.byte())]
+}

@@ -1,0 +1,134 @@
+//! Receive by packets: cuts at every place, the refusals 8, 12 and 13, and sessions that have ended.
+
+use super::*;
+use crate::cases::{repeated_layout, Direction};
+use crate::model::CHECKSUM;
+
+pub fn cases() -> Vec<Case> {
+    let mut cases = Vec::new();
+    for (memory, wire) in sides() {
+        let plan = woven_plan(signature(memory, wire));
+        cases.extend([byte_by_byte(&plan), every_cut(&plan), refusals(&plan)]);
+    }
+    cases.extend([nothing_to_receive(), ended_sessions(), memory_lengths(), opens_over_a_session(), two_transfers()]);
+    cases
+}
+
+fn sides() -> [(Domain, Domain); 5] {
+    let other = Domain { guard_type: CHECKSUM, application_tag: 0xABCD, flags: 0, ..dif() };
+    [(unsigned(), unsigned()), (unsigned(), dif()), (dif(), unsigned()), (dif(), dif()), (dif(), other)]
+}
+
+/// Two blocks of 8 over two woven entries.
+fn woven_plan(signature: Signature) -> Plan {
+    let layout = repeated_layout(&[entry(7, 5, 3), entry(4, 3, 5)], 5);
+    Plan { memory: 0x40, configuration: Configuration { layout, signature }, offset: 6, length: 16 }
+}
+
+/// A wire with a bad field in its first block, if it has any.
+fn prepared(name: &str, plan: &Plan) -> Case {
+    Case::named(name)
+        .then_all(plan.prepare(Direction::Receive))
+        .then_all([plan.configure(), plan.set_input(Direction::Receive, 11, 0x66)])
+}
+
+/// Each byte alone, with a finish after it: too early but for the last.
+fn byte_by_byte(plan: &Plan) -> Case {
+    let mut case = prepared("byte by byte", plan).then_all([plan.open(), Call::Finish]);
+    for at in 0..plan.wire_stream() {
+        case = case.then_all([plan.packet(at, 1), Call::Finish]);
+    }
+    case.then(Call::Check)
+}
+
+/// Two packets with the cut at every place, each time over memory filled anew.
+fn every_cut(plan: &Plan) -> Case {
+    let stream = plan.wire_stream();
+    let mut case = prepared("every cut", plan);
+    for cut in 0..=stream {
+        case = case.then_all([
+            Call::FillMemory { pattern: cut },
+            plan.open(),
+            plan.packet(0, cut),
+            plan.packet(cut, stream - cut),
+            Call::Finish,
+            Call::Check,
+        ]);
+    }
+    case
+}
+
+/// Packets one byte too long, of a wrong memory length or both, before each accepted one and after the last.
+fn refusals(plan: &Plan) -> Case {
+    let stream = plan.wire_stream();
+    let refused = |taken: u64| {
+        let left = stream - taken;
+        let lent = |memory: u64, count: u64| Call::Packet { memory, at: 0, count };
+        let (short, right, long) = (plan.memory - 1, plan.memory, plan.memory + 1);
+        [lent(right, left + 1), lent(right, 0x4000), lent(short, left), lent(long, 0), lent(0, left + 1)]
+    };
+    let cut = 9;
+    prepared("refused packets", plan)
+        .then(plan.open())
+        .then_all(refused(0))
+        .then(plan.packet(0, cut))
+        .then_all(refused(cut))
+        .then_all([plan.packet(0, 0), Call::Finish, plan.packet(cut, stream - cut - 1), Call::Finish])
+        .then_all(refused(stream - 1))
+        .then(plan.packet(stream - 1, 1))
+        .then_all(refused(stream))
+        .then_all([plan.packet(0, 0), Call::Finish, Call::Check])
+}
+
+/// L = 0: all bytes have come from the start, at an offset that may be the total.
+fn nothing_to_receive() -> Case {
+    let mut plan = woven_plan(signature(unsigned(), dif()));
+    (plan.offset, plan.length) = (40, 0);
+    Case::named("nothing to receive")
+        .then_all([plan.configure(), plan.open(), plan.packet(0, 0), plan.packet(0, 1), Call::Finish])
+        .then_all([plan.open(), Call::Abandon, plan.open(), Call::Finish, Call::Check])
+}
+
+/// No session, one that was finished, one that was abandoned, and one that went with its key.
+fn ended_sessions() -> Case {
+    let plan = woven_plan(signature(unsigned(), dif()));
+    let refused = [plan.packet(0, 0), plan.packet(0, 1), Call::Packet { memory: 0, at: 0, count: 9 }];
+    let refused = [&refused[..], &[Call::Finish, Call::Abandon]].concat();
+    prepared("ended sessions", &plan)
+        .then_all(refused.clone())
+        .then_all([plan.open(), plan.packet(0, 32), Call::Finish])
+        .then_all(refused.clone())
+        .then_all([plan.open(), plan.packet(0, 21), Call::Abandon])
+        .then_all(refused.clone())
+        .then_all([Call::Check, plan.open(), Call::New])
+        .then_all(refused)
+        .then(plan.open())
+}
+
+/// The packet's memory is held against the session's length.
+fn memory_lengths() -> Case {
+    let plan = woven_plan(signature(unsigned(), dif()));
+    let lent = |memory: u64| Call::Packet { memory, at: 0, count: 1 };
+    prepared("a packet's memory", &plan)
+        .then(plan.open())
+        .then_all([0, plan.memory - 1, plan.memory, plan.memory + 1, 0x4000].map(lent))
+        .then_all([Call::Abandon, Call::Check])
+}
+
+/// A refused open leaves the session under way; an accepted one replaces it and starts from nothing.
+fn opens_over_a_session() -> Case {
+    let plan = woven_plan(signature(unsigned(), dif()));
+    let refused = Plan { offset: 41, ..plan.clone() };
+    prepared("opens over a session", &plan)
+        .then_all([plan.open(), plan.packet(0, 20), refused.open(), plan.packet(20, 3)])
+        .then_all([plan.open(), plan.packet(0, 32), Call::Finish, Call::Check])
+}
+
+/// The key that finish gives back is the one for the next transfer.
+fn two_transfers() -> Case {
+    let plan = woven_plan(signature(dif(), dif()));
+    prepared("two transfers", &plan)
+        .then_all([plan.open(), plan.packet(0, 17), plan.packet(17, 15), Call::Finish])
+        .then_all([plan.send(), plan.receive(), plan.open(), plan.packet(0, 32), Call::Finish, Call::Check])
+        .then_all([plan.send(), Call::Check])
+}

@@ -1,0 +1,213 @@
+//! The transfer rule: both directions over every pair of sides, copying, escapes and the error slot.
+
+use super::*;
+use crate::cases::{repeated_layout, Direction};
+use crate::model::{Layout, CHECKSUM, COPY_MASK_GIVEN};
+
+pub fn cases() -> Vec<Case> {
+    [directions_and_sides(), copying(), escapes(), error_slot()].concat()
+}
+
+const DIRECTIONS: [Direction; 2] = [Direction::Send, Direction::Receive];
+
+/// The wire's domain where the memory's is case A's: nothing agrees but the block size.
+fn other_dif() -> Domain {
+    Domain {
+        guard_type: CHECKSUM,
+        seed: 0xFFFF,
+        reference_tag: 0x0102_0304,
+        application_tag: 0xABCD,
+        flags: 0,
+        ..dif()
+    }
+}
+
+/// Three layouts of more than 80 bytes: one piece, a list out of order, and two entries woven into each other.
+fn layouts() -> [Layout; 3] {
+    [
+        list_layout(&[entry(5, 100, 0)]),
+        list_layout(&[entry(70, 31, 9), entry(0, 1, 0), entry(3, 50, 0)]),
+        repeated_layout(&[entry(4, 6, 5), entry(1, 3, 8)], 11),
+    ]
+}
+
+fn directions_and_sides() -> Vec<Case> {
+    let (wide, other) = (Domain { block_size: 16, ..dif() }, Domain { block_size: 16, ..other_dif() });
+    let sides = [(unsigned(), unsigned()), (unsigned(), wide), (other, unsigned()), (wide, other), (wide, wide)];
+    let mut cases = Vec::new();
+    for (memory, wire) in sides {
+        for layout in layouts() {
+            for direction in DIRECTIONS {
+                let configuration = Configuration { layout, signature: signature(memory, wire) };
+                let plan = Plan { memory: 0x80, configuration, offset: 3, length: 32 };
+                cases.push(transferred(&plan, direction));
+            }
+        }
+    }
+    cases
+}
+
+/// A valid input transferred, then one whose second block is spoiled.
+fn transferred(plan: &Plan, direction: Direction) -> Case {
+    let spoiled = plan.input_stream(direction) / 2;
+    Case::named(format!("{direction:?} over a pair of sides"))
+        .then_all(plan.prepare(direction))
+        .then_all([plan.configure(), plan.transfer(direction), Call::Check])
+        .then_all([plan.set_input(direction, spoiled, 0x5A), plan.transfer(direction), Call::Check])
+}
+
+fn copying() -> Vec<Case> {
+    let mut cases = Vec::new();
+    for direction in DIRECTIONS {
+        cases.push(given_masks(direction));
+        cases.push(automatic_masks(direction));
+    }
+    cases
+}
+
+/// Two blocks of which the first is spoiled in its data and in both tags, so that each byte copied shows.
+fn spoiled_input(name: &str, plan: &Plan, direction: Direction) -> Case {
+    let spoiled = [2, 10, 11, 12, 13, 14, 15].map(|at| plan.set_input(direction, at, 0x70 + at as u8));
+    Case::named(name).then_all(plan.prepare(direction)).then_all(spoiled)
+}
+
+fn given_masks(direction: Direction) -> Case {
+    let plan = plan(signature(dif(), other_dif()), 16);
+    let masks = [0x80, 0x40, 0x20, 0x10, 0x08, 0x04, 0x02, 0x01, 0x00, 0xC0, 0x3F, 0xFF];
+    let mut case = spoiled_input("copy mask given", &plan, direction);
+    for copy_mask in masks {
+        let mut plan = plan.clone();
+        plan.configuration.signature.attribute_flags = COPY_MASK_GIVEN;
+        plan.configuration.signature.copy_mask = copy_mask;
+        case = case.then_all([plan.configure(), plan.transfer(direction)]);
+    }
+    case.then(Call::Check)
+}
+
+/// Output domains that differ from the input domain, case A's, in one number at a time.
+fn outputs() -> [Domain; 9] {
+    let like = dif();
+    [
+        like,
+        Domain { guard_type: CHECKSUM, ..like },
+        Domain { seed: 0xFFFF, ..like },
+        Domain { application_tag: 0x1235, ..like },
+        Domain { reference_tag: 0, ..like },
+        Domain { flags: 0, ..like },
+        Domain { flags: REMAP | 2, ..like },
+        Domain { flags: REMAP | 4, ..like },
+        other_dif(),
+    ]
+}
+
+/// The copy mask given is ignored.
+fn automatic_masks(direction: Direction) -> Case {
+    let mut case = spoiled_input("copy mask worked out", &plan(signature(dif(), dif()), 16), direction);
+    for (at, output) in outputs().into_iter().enumerate() {
+        let signature = match direction {
+            Direction::Send => signature(dif(), output),
+            Direction::Receive => signature(output, dif()),
+        };
+        let plan = plan(Signature { copy_mask: 0x1F * at as u8, ..signature }, 16);
+        case = case.then_all([plan.configure(), plan.transfer(direction)]);
+    }
+    case.then(Call::Check)
+}
+
+fn escapes() -> Vec<Case> {
+    let mut cases = Vec::new();
+    for flags in [1, 3, 5] {
+        for check_mask in [0xFF, 0xC0, 0xCF, 0x80] {
+            cases.push(escaped_fields(flags, check_mask));
+        }
+    }
+    cases.push(escape_of_the_output());
+    cases
+}
+
+/// A block with a wrong guard, whose other two fields read an escape in whole, in half or not at all.
+fn escaped_fields(flags: u32, check_mask: u8) -> Case {
+    let reference_tag = 0x0102_0304;
+    let wire = Domain { flags, reference_tag, ..dif() };
+    let plan = plan(Signature { check_mask, ..signature(unsigned(), wire) }, 16);
+    let fields: [(u16, u32); 9] = [
+        (0x1234, reference_tag),
+        (0xFFFF, reference_tag),
+        (0xFFFF, 0xFFFF_FFFF),
+        (0xFFFF, 0xFFFF_FFFE),
+        (0xFFFF, 0x7FFF_FFFF),
+        (0x1234, 0xFFFF_FFFF),
+        (0xFF34, 0xFFFF_FFFF),
+        (0x12FF, 0xFFFF_FFFF),
+        (0xFFFE, 0xFFFF_FFFF),
+    ];
+    let mut case = Case::named("escape").then_all(plan.prepare(Direction::Receive)).then(plan.configure());
+    for (application, reference) in fields {
+        let field = [&[0xBA, 0xD0][..], &application.to_be_bytes(), &reference.to_be_bytes()].concat();
+        case = case.then_all(wire_bytes(8, &field)).then_all([plan.receive(), Call::Check]);
+    }
+    case
+}
+
+/// The escape flag stands in the output domain alone, and so it doesn't escape.
+fn escape_of_the_output() -> Case {
+    let plan = plan(signature(Domain { flags: REMAP | 2, ..dif() }, dif()), 16);
+    Case::named("escape flag of the output domain")
+        .then_all(plan.prepare(Direction::Receive))
+        .then(plan.configure())
+        .then_all(wire_bytes(8, &[0xBA, 0xD0, 0xFF, 0xFF]))
+        .then_all([plan.receive(), Call::Check])
+}
+
+fn error_slot() -> Vec<Case> {
+    let mut cases = vec![first_error_kept(), slot_kept_by_open(), offset_in_the_stream()];
+    cases.extend([0xFF, 0x3F, 0x0F, 0x7F, 0x40, 0x1F, 0x01, 0x08, 0x00].map(order_of_fields));
+    cases
+}
+
+/// A block with three bad fields behind a good one: the mask decides which is reported, and it is reported whole.
+fn order_of_fields(check_mask: u8) -> Case {
+    let plan = plan(Signature { check_mask, ..signature(unsigned(), dif()) }, 24);
+    Case::named("order of the fields")
+        .then_all(plan.prepare(Direction::Receive))
+        .then(plan.configure())
+        .then_all(wire_bytes(24, &[0xBA, 0xD0, 0xBA, 0xD1, 0xBA, 0xD2, 0xBA, 0xD3]))
+        .then_all(wire_bytes(40, &[0xBA; 8]))
+        .then_all([plan.receive(), Call::Check, Call::Check])
+}
+
+/// The slot keeps its first error through a good and a bad transfer and both kinds of configure, until it is checked.
+fn first_error_kept() -> Case {
+    let plan = plan(signature(unsigned(), dif()), 24);
+    let refused = configure(0x20, Configuration::default());
+    Case::named("first error kept")
+        .then_all(plan.prepare(Direction::Receive))
+        .then_all([plan.configure(), plan.set_input(Direction::Receive, 47, 0x66), plan.receive()])
+        .then_all([plan.set_input(Direction::Receive, 0, 0x66), plan.receive()])
+        .then_all([refused, plan.configure(), plan.send(), plan.receive()])
+        .then_all([Call::Check, Call::Check, plan.set_input(Direction::Receive, 10, 0x66), plan.receive(), Call::Check])
+}
+
+/// A session's key holds the old error, whatever the packets bring.
+fn slot_kept_by_open() -> Case {
+    let plan = plan(signature(unsigned(), dif()), 16);
+    Case::named("first error kept by open")
+        .then_all(plan.prepare(Direction::Receive))
+        .then_all([plan.configure(), plan.set_input(Direction::Receive, 27, 0x66), plan.receive()])
+        .then_all([plan.set_input(Direction::Receive, 0, 0x66), plan.open(), plan.packet(0, 32)])
+        .then_all([Call::Finish, Call::Check, plan.open(), plan.packet(0, 20), Call::Abandon, Call::Check])
+}
+
+/// The layout offset enters neither the error's offset nor the reference tag.
+fn offset_in_the_stream() -> Case {
+    let mut plan = plan(signature(dif(), other_dif()), 24);
+    plan.memory = 0x80;
+    plan.configuration.layout = list_layout(&[entry(0x50, 0x21, 0), entry(1, 0x40, 0)]);
+    plan.offset = 0x11;
+    Case::named("offset in the stream").then_all(plan.prepare(Direction::Send)).then_all([
+        plan.configure(),
+        plan.set_input(Direction::Send, 44, 0x66),
+        plan.send(),
+        Call::Check,
+    ])
+}

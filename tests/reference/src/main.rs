@@ -1,0 +1,73 @@
+//! The commands of the independent test program.
+
+use reference::{paper, replay};
+use std::process::ExitCode;
+
+const USAGE: &str = "usage: reference paper
+       reference replay SEED CASEFILE ANSWERFILE
+       reference live COUNT SEED [--from NUMBER]";
+
+fn main() -> ExitCode {
+    let arguments: Vec<String> = std::env::args().skip(1).collect();
+    let arguments: Vec<&str> = arguments.iter().map(String::as_str).collect();
+    let outcome = match arguments[..] {
+        ["paper"] => run_paper(),
+        ["replay", seed, case_file, answer_file] => run_replay(seed, case_file, answer_file),
+        ["live", count, seed] => run_live(count, seed, "0"),
+        ["live", count, seed, "--from", from] => run_live(count, seed, from),
+        _ => Err(USAGE.to_string()),
+    };
+    match outcome {
+        Ok(()) => ExitCode::SUCCESS,
+        Err(message) => {
+            eprintln!("{message}");
+            ExitCode::FAILURE
+        }
+    }
+}
+
+fn number(text: &str) -> Result<u64, String> {
+    text.parse().map_err(|_| format!("{text} is no number\n{USAGE}"))
+}
+
+fn run_paper() -> Result<(), String> {
+    let findings = paper::findings();
+    println!("paper: {} numbers held against the model, {} differ", findings.held, findings.differences.len());
+    if findings.differences.is_empty() {
+        Ok(())
+    } else {
+        Err(findings.differences.join("\n"))
+    }
+}
+
+fn run_replay(seed: &str, case_file: &str, answer_file: &str) -> Result<(), String> {
+    let replay = replay::replay(number(seed)?);
+    for (path, text) in [(case_file, &replay.case_file), (answer_file, &replay.answer_file)] {
+        std::fs::write(path, text).map_err(|error| format!("{path}: {error}"))?;
+    }
+    println!(
+        "replay: {} cases, {} bytes, {} answers:",
+        replay.cases,
+        replay.case_file.len(),
+        replay.answers.values().sum::<usize>()
+    );
+    for (answer, times) in &replay.answers {
+        println!("  answer {answer}: {times} times");
+    }
+    let faults = replay.faults();
+    if faults.is_empty() {
+        Ok(())
+    } else {
+        Err(faults.join("\n"))
+    }
+}
+
+#[cfg(feature = "live")]
+fn run_live(count: &str, seed: &str, from: &str) -> Result<(), String> {
+    reference::live::live(number(count)?, number(seed)?, number(from)?)
+}
+
+#[cfg(not(feature = "live"))]
+fn run_live(_: &str, _: &str, _: &str) -> Result<(), String> {
+    Err("this program was built without the library: build it with --features live".to_string())
+}

@@ -1,0 +1,164 @@
+//! The table of numbered answers and what the slot keeps: the borders by hand, with the number that the table gives.
+
+use super::*;
+
+pub const PARTS: [fn(&mut Findings); 6] = [domains, signatures, layouts, transfers, packets, slot];
+
+/// Answers 1 and 2, by the wire domain.
+fn domains(findings: &mut Findings) {
+    let a = case_a_domain();
+    let ignored = Domain { kind: 0, block_size: 12, guard_type: 9, seed: 1, application_tag: 0xFFFF, flags: 6, ..a };
+    let table = [
+        ("kind 2", Domain { kind: 2, ..a }, 1),
+        ("kind 0 with bad numbers", ignored, 0),
+        ("block size 7", Domain { block_size: 7, ..a }, 1),
+        ("guard type 1", Domain { guard_type: 1, ..a }, 0),
+        ("guard type 2", Domain { guard_type: 2, ..a }, 1),
+        ("seed 0xFFFF", Domain { seed: 0xFFFF, ..a }, 0),
+        ("seed 1", Domain { seed: 1, ..a }, 1),
+        ("flags 5", Domain { flags: 5, ..a }, 0),
+        ("flags 6", Domain { flags: 6, ..a }, 1),
+        ("flags 7", Domain { flags: 7, ..a }, 1),
+        ("flags 8", Domain { flags: 8, ..a }, 1),
+        ("remap alone with tag 0xFFFF", Domain { flags: 1, application_tag: 0xFFFF, ..a }, 0),
+        ("flag 2 with tag 0xFFFF", Domain { flags: 2, application_tag: 0xFFFF, ..a }, 2),
+        ("flag 4 with tag 0xFFFF", Domain { flags: 4, application_tag: 0xFFFF, ..a }, 2),
+        ("flag 2 with tag 0xFFFE", Domain { flags: 2, application_tag: 0xFFFE, ..a }, 0),
+    ];
+    for (what, domain, answer) in table {
+        findings.hold(what, answer, configuration(signature(domain)).judge(8));
+    }
+}
+
+fn configuration(signature: Signature) -> Configuration {
+    let layout = list_layout(&[Entry { start: 0, count: 8, skip: 0 }]);
+    Configuration { layout, signature }
+}
+
+/// Answers 3 and 4, and 1 before 2 before 3 before 4.
+fn signatures(findings: &mut Findings) {
+    let (a, none) = (case_a_domain(), Domain::default());
+    let wide = Domain { block_size: 16, ..a };
+    let escape = Domain { flags: 2, application_tag: 0xFFFF, ..a };
+    let table = [
+        (a, a, 0, 0),
+        (a, a, 1, 0),
+        (a, a, 2, 1),
+        (none, none, 1, 3),
+        (none, a, 1, 3),
+        (a, none, 1, 3),
+        (a, wide, 1, 3),
+        (a, wide, 0, 4),
+        (a, Domain { kind: 0, ..wide }, 0, 0),
+        (escape, Domain { kind: 2, ..a }, 1, 1),
+        (escape, none, 2, 1),
+        (escape, none, 1, 2),
+        (wide, escape, 0, 2),
+    ];
+    for (memory, wire, attribute_flags, answer) in table {
+        let signature = Signature { memory, wire, attribute_flags, ..Signature::default() };
+        findings.hold(&format!("{signature:?}"), answer, configuration(signature).judge(8));
+    }
+    let beyond = Configuration::default().judge(MEMORY_LIMIT + 1);
+    findings.hold("8 before all others", 8, beyond);
+    findings.hold("memory at its limit", 0, configuration(signature(a)).judge(MEMORY_LIMIT));
+}
+
+/// Entries as start, count and skip; the repeat count; the answer.
+type LayoutRow = (&'static [(u64, u32, u32)], u32, u64);
+
+/// Answers 5 to 7 over 64 bytes of memory, and 5 before 6 before 7.
+fn layouts(findings: &mut Findings) {
+    let table: [LayoutRow; 17] = [
+        (&[], 1, 5),
+        (&[(0, 1, 0)], 0, 5),
+        (&[(0, 0, 0)], 1, 5),
+        (&[(0, 64, 0)], 1, 0),
+        (&[(0, 65, 0)], 1, 6),
+        (&[(0, 1, 0)], 64, 0),
+        (&[(0, 1, 0)], 65, 6),
+        (&[(0, 1, 0)], 1_024, 6),
+        (&[(0, 1, 0)], 1_025, 5),
+        (&[(u64::MAX, 1, 0)], 1, 6),
+        (&[(u64::MAX - 7, 16, 0)], 1, 6),
+        (&[(0, 1, u32::MAX)], 1, 0),
+        (&[(0, 1, u32::MAX)], 2, 6),
+        (&[(0, 8, 0), (8, 8, 0)], 1, 0),
+        (&[(0, 8, 0), (7, 8, 0)], 1, 7),
+        (&[(0, 8, 0), (0, 8, 0), (64, 1, 0)], 1, 6),
+        (&[(64, 1, 0), (0, 0, 0)], 1, 5),
+    ];
+    for (entries, repeat, answer) in table {
+        let entries: Vec<Entry> = entries.iter().map(|&(start, count, skip)| Entry { start, count, skip }).collect();
+        let layout = Layout { repeat, ..list_layout(&entries) };
+        let configuration = Configuration { layout, ..Configuration::default() };
+        findings.hold(&format!("{repeat} times {entries:?}"), answer, configuration.judge(64));
+    }
+    let seventeen = Layout { used: 17, ..list_layout(&[Entry { start: 0, count: 1, skip: 0 }; 16]) };
+    let configuration = Configuration { layout: seventeen, ..Configuration::default() };
+    findings.hold("17 entries", 5, configuration.judge(64));
+}
+
+/// Answers 14, 8, 9, 10 and 11 in this order: memory, wire, offset and length over case A's key for 16 bytes.
+fn transfers(findings: &mut Findings) {
+    let table = [
+        (16, 32, 0, 16, 0),
+        (15, 0, 17, 7, 8),
+        (17, 32, 0, 16, 8),
+        (16, 0, 17, 7, 9),
+        (16, 32, 0, 17, 9),
+        (16, 0, 1, 16, 10),
+        (16, 64, 0, 24, 10),
+        (16, 0, 16, 0, 0),
+        (16, 0, 17, 0, 10),
+        (16, 31, 0, 16, 11),
+        (16, 33, 0, 16, 0),
+    ];
+    for (memory, wire, offset, length, answer) in table {
+        let what = format!("memory {memory}, wire {wire}, offset {offset}, length {length}");
+        let (mut memory, mut wire) = (vec![0; memory], vec![0; wire]);
+        let mut key = key(16, signature(case_a_domain()));
+        findings.hold(&what, answer, key.send(&memory, &mut wire, offset, length).answer);
+        findings.hold(&what, answer, key.receive(&mut memory, &wire, offset, length).answer);
+        let opened = key.open(&memory, offset, length).err().unwrap_or(0);
+        findings.hold(&what, if answer == 11 { 0 } else { answer }, opened);
+    }
+    let fresh = Key::default().open(&[], u64::MAX, u64::MAX).err();
+    findings.hold("never configured", Some(14), fresh);
+}
+
+/// Answers 8 and 12 in this order, and 13.
+fn packets(findings: &mut Findings) {
+    let opened = key(16, signature(case_a_domain())).open(&[0; 16], 0, 16);
+    let mut session = opened.expect("the paper's transfer is accepted");
+    let mut packet = |memory: usize, bytes: &[u8]| {
+        let totals = session.packet(&mut vec![0; memory], bytes);
+        (totals.answer, totals.taken, totals.written, session.finish().err())
+    };
+    findings.hold("packet too long, wrong memory", (8, 0, 0, Some(13)), packet(15, &[0; 33]));
+    findings.hold("packet too long", (12, 0, 0, Some(13)), packet(16, &[0; 33]));
+    findings.hold("all but one byte", (0, 31, 16, Some(13)), packet(16, &[0; 31]));
+    findings.hold("refused after that", (12, 0, 0, Some(13)), packet(16, &[0; 2]));
+    findings.hold("the last byte", (0, 32, 16, None), packet(16, &[0]));
+    findings.hold("one more", (12, 0, 0, None), packet(16, &[0]));
+    findings.hold("an empty one", (0, 32, 16, None), packet(16, &[]));
+}
+
+/// "the first bad block's first bad field, in the order guard, application, reference", kept until it is checked.
+fn slot(findings: &mut Findings) {
+    let mut wire = CASE_A_WIRE;
+    wire[24..].fill(0xBA);
+    findings.hold("guard first", [1, 0, 0xBABA, 16], check_of(&wire, signature(case_a_domain())));
+    let tags = Signature { check_mask: 0x3F, ..signature(case_a_domain()) };
+    findings.hold("then application", [3, 0x1234, 0xBABA, 16], check_of(&wire, tags));
+    wire[15] = 0xFE;
+    let earlier = [2, 0xFFFF_FFFF, 0xFFFF_FFFE, 0];
+    findings.hold("an earlier block first", earlier, check_of(&wire, signature(case_a_domain())));
+    let mut key = key(16, signature(case_a_domain()));
+    key.receive(&mut [0; 16], &wire, 0, 16);
+    wire[0] = 0x77;
+    key.receive(&mut [0; 16], &wire, 0, 16);
+    key.configure(&[0; 8], &configuration(signature(case_a_domain())));
+    findings.hold("kept through a transfer and configure", earlier, key.check());
+    findings.hold("emptied by check", [0; 4], key.check());
+}

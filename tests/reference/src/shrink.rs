@@ -1,0 +1,138 @@
+//! Makes a failing case small: drops calls and shrinks numbers while it goes on failing.
+
+use crate::script::Call;
+use std::time::{Duration, Instant};
+
+/// A large case is left as small as it got by then.
+const TIME: Duration = Duration::from_secs(20);
+
+pub fn shrink(calls: &[Call], fails: impl Fn(&[Call]) -> bool) -> Vec<Call> {
+    let mut shrinking = Shrinking { calls: calls.to_vec(), fails, end: Instant::now() + TIME };
+    while shrinking.drop_calls() | shrinking.shrink_together() | shrinking.shrink_numbers() {}
+    shrinking.calls
+}
+
+struct Shrinking<F> {
+    calls: Vec<Call>,
+    fails: F,
+    end: Instant,
+}
+
+impl<F: Fn(&[Call]) -> bool> Shrinking<F> {
+    /// Takes the smaller case if it still fails.
+    fn accept(&mut self, smaller: Vec<Call>) -> bool {
+        let accepted = Instant::now() < self.end && (self.fails)(&smaller);
+        if accepted {
+            self.calls = smaller;
+        }
+        accepted
+    }
+
+    /// Drops runs of calls, long ones first.
+    fn drop_calls(&mut self) -> bool {
+        let mut dropped = false;
+        let mut run = self.calls.len().next_power_of_two();
+        while run > 0 {
+            let mut at = 0;
+            while at < self.calls.len() {
+                let end = (at + run).min(self.calls.len());
+                let smaller = [&self.calls[..at], &self.calls[end..]].concat();
+                if self.accept(smaller) {
+                    dropped = true;
+                } else {
+                    at += run;
+                }
+            }
+            run /= 2;
+        }
+        dropped
+    }
+
+    /// Numbers that belong together, as a memory's length in all calls: the same one wherever it stands.
+    fn shrink_together(&mut self) -> bool {
+        let mut numbers: Vec<u64> = self.calls.iter().flat_map(Call::numbers).collect();
+        numbers.sort_unstable();
+        numbers.dedup();
+        let mut shrunk = false;
+        for number in numbers.into_iter().rev() {
+            shrunk |= smaller_numbers(number).any(|smaller| {
+                let calls: Option<Vec<Call>> = self.calls.iter().map(|call| replaced(call, number, smaller)).collect();
+                calls.is_some_and(|calls| calls != self.calls && self.accept(calls))
+            });
+        }
+        shrunk
+    }
+
+    fn shrink_numbers(&mut self) -> bool {
+        let mut shrunk = false;
+        for at in 0..self.calls.len() {
+            for place in 0..self.calls[at].numbers().len() {
+                shrunk |= self.shrink_number(at, place);
+            }
+        }
+        shrunk
+    }
+
+    /// Each number alone, as far down as it goes.
+    fn shrink_number(&mut self, at: usize, place: usize) -> bool {
+        let mut shrunk = false;
+        while let Some(&number) = self.calls[at].numbers().get(place) {
+            let accepted = smaller_numbers(number).any(|smaller| {
+                let changed = with_number(&self.calls[at], place, smaller);
+                changed.is_some_and(|call| self.accept_call(at, call))
+            });
+            if !accepted {
+                break;
+            }
+            shrunk = true;
+        }
+        shrunk
+    }
+
+    fn accept_call(&mut self, at: usize, call: Call) -> bool {
+        let mut smaller = self.calls.clone();
+        smaller[at] = call;
+        self.accept(smaller)
+    }
+}
+
+/// 0 first, then ever smaller steps down.
+fn smaller_numbers(number: u64) -> impl Iterator<Item = u64> {
+    let candidates = [0, 1, number / 2, number.saturating_sub(8), number.saturating_sub(1)];
+    candidates.into_iter().filter(move |&smaller| smaller < number)
+}
+
+fn replaced(call: &Call, number: u64, by: u64) -> Option<Call> {
+    let numbers: Vec<u64> = call.numbers().iter().map(|&n| if n == number { by } else { n }).collect();
+    Call::from_numbers(call.letter(), &numbers)
+}
+
+fn with_number(call: &Call, place: usize, number: u64) -> Option<Call> {
+    let mut numbers = call.numbers();
+    numbers[place] = number;
+    Call::from_numbers(call.letter(), &numbers)
+}
+
+#[cfg(test)]
+mod tests {
+    use super::*;
+    use crate::cases::random;
+
+    /// A made-up fault: a send of 5 bytes or more with a check somewhere behind it.
+    fn fails(calls: &[Call]) -> bool {
+        let sends = |call: &Call| matches!(call, Call::Send { length: 5.., .. });
+        let sent = calls.iter().position(sends);
+        sent.is_some_and(|at| calls[at..].contains(&Call::Check))
+    }
+
+    #[test]
+    fn only_the_cause_is_left() {
+        let cases = (0..200).map(|number| random::case(1, number).calls);
+        let failing: Vec<Vec<Call>> = cases.filter(|calls| fails(calls)).collect();
+        assert!(failing.len() > 20);
+        for calls in failing {
+            let least = [Call::Send { memory: 0, wire: 0, offset: 0, length: 5 }, Call::Check];
+            assert_eq!(shrink(&calls, fails), least);
+        }
+    }
+}
