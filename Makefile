@@ -24,8 +24,9 @@ PROVED := $(wildcard crates.txt) $(shell test -d crates && find crates -name '*.
 all: build/libgaroalva.a build/libgaroalva.so
 
 build/libgaroalva.a: $(PROVED)
-	rt staticlib capi
 	mkdir -p build
+	@echo 'proving the crate capi and what it rests on: some minutes the first time'
+	rt staticlib capi > build/prove.log || { cat build/prove.log; exit 1; }
 	cp target/staticlib/libcapi.a $@
 
 build/exports.map: Makefile
@@ -41,7 +42,7 @@ build/libgaroalva.so: build/$(SHARED)
 	ln -sf $(SONAME) $@
 
 test: test-header test-c test-rust
-	if [ -x tests/run ]; then tests/run; fi
+	tests/run
 
 test-header:
 	echo '#include "garoalva.h"' | $(CC) -x c -std=c11 $(WARNINGS) -Iinclude -fsyntax-only -

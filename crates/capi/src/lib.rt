@@ -1,5 +1,6 @@
-// The C interface (include/garoalva.h): 01's calls over plain records of numbers. A record that came from these calls gets what the call below answers, one
-// that only looks so is worked by as it stands, and any other is refused with a number of our own.
+// The C interface (include/garoalva.h): 01's calls over plain records of numbers. A record that came from these calls
+// gets what the call below answers, one that only looks so is worked by as it stands, and any other is refused with a
+// number of our own.
 mod converting;
 mod packing;
 mod sealing;

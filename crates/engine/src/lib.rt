@@ -1,5 +1,5 @@
-// The transfer rule's engine: bytes of the input stream in, bytes of the output stream placed through a layout. It does not know which
-// side is memory.
+// The transfer rule's engine: bytes of the input stream in, bytes of the output stream placed through a layout. It does
+// not know which side is memory.
 mod parts;
 mod sides;
 mod stream;

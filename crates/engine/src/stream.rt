@@ -52,7 +52,8 @@ fn lesser(a: u64, b: usize) -> usize
     if n < b { n } else { b }
 }
 
-// Feeds a part that is all of one block's data or all of one field: data is placed at once, a field held, and a whole unit settled.
+// Feeds a part that is all of one block's data or all of one field: data is placed at once, a field held, and a whole
+// unit settled.
 fn feed_part(
     rule: Rule,
     p: Progress,
@@ -125,7 +126,8 @@ fn feed_bare(
     }
 }
 
-// Feeds bytes of the input stream, which may end anywhere, and places what becomes known of the output stream from layout byte start on.
+// Feeds bytes of the input stream, which may end anywhere, and places what becomes known of the output stream from
+// layout byte start on.
 pub fn feed(
     rule: Rule,
     p: Progress,

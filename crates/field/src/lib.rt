@@ -1,4 +1,5 @@
-// The protection field's rule: what a domain gives, what a check finds, what goes out (01, "The protection field" and "The transfer rule").
+// The protection field's rule: what a domain gives, what a check finds, what goes out (01, "The protection field" and
+// "The transfer rule").
 mod bytes;
 mod judging;
 mod making;
@@ -14,7 +15,8 @@ ghost use mathlib.Core.Path.{_≡_};
 ghost use Rattle.field.specs.Domains as domains;
 ghost use Rattle.field.specs.Fields as fields;
 
-// One side of a transfer: kind 0 has no signature and ignores all its other numbers, kind 1 is T10-DIF.
+// One side of a transfer: kind 0 has no signature and ignores all its other numbers, kind 1 is T10-DIF. It crosses the
+// border to C as it stands.
 #[repr(C)]
 pub struct Domain {
     pub kind: u32,

@@ -12,7 +12,8 @@ pub const CRC: u32 = 0;
 
 pub const CHECKSUM: u32 = 1;
 
-// A guard under way: the CRC register, or the ones' complement sum so far, and whether an odd number of bytes went into that.
+// A guard under way: the CRC register, or the ones' complement sum so far, and whether an odd number of bytes went into
+// that.
 pub struct Running {
     pub value: u16,
     pub odd: bool,

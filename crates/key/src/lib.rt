@@ -76,7 +76,8 @@ pub struct Configuration {
     pub layout: Layout,
 }
 
-// A bad field: its part, what the input domain's rule gives, what was found, and where its block begins in the input stream.
+// A bad field: its part, what the input domain's rule gives, what was found, and where its block begins in the input
+// stream.
 pub struct Error {
     pub part: Part,
     pub actual: u32,

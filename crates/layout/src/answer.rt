@@ -140,8 +140,8 @@ fn overlapping(l: Layout) -> bool
     met
 }
 
-// Whether the moves can run over the layout in so many bytes of memory: judge's tests without the search for an overlap, whose
-// time grows with the square of the pieces, and that the total is no more than the memory.
+// Whether the moves can run over the layout in so many bytes of memory: judge's tests without the search for an
+// overlap, whose time grows with the square of the pieces, and that the total is no more than the memory.
 pub fn fits(l: Layout, memory_length: u64) -> bool
     ensures { λ r. ⌜ r ≡ answers.fits l «memory_length» ⌝ }
 {

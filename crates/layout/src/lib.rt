@@ -17,7 +17,8 @@ pub use places::run;
 pub use places::total;
 pub use places::walk;
 
-// count bytes from start on; the next repeat begins skip bytes behind them.
+// count bytes from start on; the next repeat begins skip bytes behind them. Entries and layouts cross the border to C as
+// they stand.
 #[repr(C)]
 pub struct Entry {
     pub start: MemoryOffset,

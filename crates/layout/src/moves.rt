@@ -14,8 +14,8 @@ use crate::places::find;
 use crate::places::position_of;
 use crate::places::span;
 
-// The position n bytes further on, in this repeat or at the start of the next: from run to run nothing is divided again,
-// and the offset of a byte, which may pass 64 bits, is never worked out.
+// The position n bytes further on, in this repeat or at the start of the next: from run to run nothing is divided
+// again, and the offset of a byte, which may pass 64 bits, is never worked out.
 fn ahead(p: Position, n: u64, span: u64) -> Position
     requires { ⌜ (p .byte < span) × (p .byte + n ≤ span) × (p .repeat < 2 ^ 32) ⌝ }
     ensures { λ q. ⌜ (q .byte < span) × (q .repeat * span + q .byte ≡ p .repeat * span + p .byte + n) ⌝ }

@@ -4,10 +4,9 @@ ghost use mathlib.Core.Path.{_≡_};
 ghost use Prim.Native.Nat.{_+_, _<_, _^_};
 
 // A place in the layout's bytes, counted from the layout's first byte.
-#[repr(C)]
 pub struct LayoutOffset(pub(crate) u64);
 
-// A place in the lent memory.
+// A place in the lent memory. It crosses the border to C inside an entry.
 #[repr(C)]
 pub struct MemoryOffset(pub(crate) u64);
 

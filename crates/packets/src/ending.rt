@@ -21,7 +21,8 @@ fn key_of(s: Session) -> Key
     key::record(key, slot)
 }
 
-// Ends the transfer once all wire bytes came. Before that it hands the session back; the answer's key is the one given to open.
+// Ends the transfer once all wire bytes came. Before that it hands the session back; the answer's key is the one given
+// to open.
 pub fn finish(session: Session) -> Finished
     requires { ⌜ Underway session ⌝ }
     ensures { λ r. ⌜ r ≡ sessions.finishing session ⌝ }

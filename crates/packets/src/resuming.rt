@@ -11,7 +11,8 @@ pub fn eight(held: [u8; 8])
     ensures { λ _. ⌜ length held ≡ 8 ⌝ }
 {}
 
-// Whether the session meets the premise of packet, finish and abandon, as every session from these calls does. For records that come from elsewhere.
+// Whether the session meets the premise of packet, finish and abandon, as every session from these calls does. For
+// records that come from elsewhere.
 pub fn under_way(session: Session) -> bool
     requires { ⌜ Usable (session .key) ⌝ }
     ensures { λ r. ⌜ (r ≡ sessions.underway session) × (length (session .progress .held) ≡ 8) ⌝ }

@@ -1,5 +1,6 @@
-// replay: makes the calls that its standard input lists, through the C interface, and prints what each answers and what memory and wire hold then. The list
-// and the right answers are written by tests/reference; README there says what the lines mean.
+// replay: makes the calls that its standard input lists, through the C interface, and prints what each answers and what
+// memory and wire hold then. tests/reference writes the list and the right answers; its README says what the lines
+// mean.
 mod buffers;
 mod calls;
 mod lines;

@@ -40,7 +40,8 @@ fn lesser(a: usize, b: u64) -> usize
     if a < n { a } else { n }
 }
 
-// Feeds n layout bytes from the offset on, run by run, and places what comes out in the wire's first bytes. Answers the first error.
+// Feeds n layout bytes from the offset on, run by run, and places what comes out in the wire's first bytes. Answers the
+// first error.
 fn draw(
     rule: Rule,
     from: Layout,

@@ -37,7 +37,8 @@ fn receive_in_packets(key: Key, wire: &[u8], memory: &mut [u8]) -> Key
     finished.key
 }
 
-// Checks the fields of a wire, which the caller read into a buffer; more says that there was more than the buffer holds.
+// Checks the fields of a wire, which the caller read into a buffer; more says that there was more than the buffer
+// holds.
 pub fn check_wire(wire: &[u8], more: bool, memory: &mut [u8]) -> Answer
     ensures { λ r. ⌜ r ≡ checking.checkOf (now (wire .entry)) more (now (memory .entry)) ⌝ }
     ensures { λ _. ⌜ now (memory .exit) ≡ checking.memoryOf (now (wire .entry)) more (now (memory .entry)) ⌝ }
