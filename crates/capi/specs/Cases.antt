@@ -51,7 +51,7 @@ pub record Border : Type 0 where
   -- came from these calls
   pub keyCame : (k : Key) → CameFromCalls k → ActsAs (keyRecord k) k
   pub sessionCame : (s : Session) → SessionFromCalls s → SessionActsAs (sessionRecord s) s
-  -- passes the test: the calls below are safe on it, and what they hand back unchanged is the record as it was
+  -- passes the test: the calls below are safe on it, and what they hand back unchanged is the record as it was (a session's held bytes are eight by their type)
   pub keyPasses : (r : KeyRecord) → isKey r ≡ true → ActsAs r (keyOf r) × Usable (keyOf r) × (keyRecord (keyOf r) ≡ r)
   pub sessionPasses : (r : SessionRecord) → isSession r ≡ true → length (r .held) ≡ 8 → SessionActsAs r (sessionOf r) × Underway (sessionOf r) × (sessionRecord (sessionOf r) ≡ r)
   -- fails it
