@@ -23,6 +23,26 @@ fn none() -> Held {
     Held { key, session }
 }
 
+// The key's record without its seal.
+fn unsealed(h: Held) -> Held {
+    let k = h.key;
+    let layout = k.layout;
+    let signature = k.signature;
+    let key = KeyRecord {
+        seal: 0,
+        memory_length: k.memory_length,
+        layout,
+        signature,
+        configured: k.configured,
+        error_type: k.error_type,
+        error_actual: k.error_actual,
+        error_expected: k.error_expected,
+        error_offset: k.error_offset,
+    };
+    let session = h.session;
+    Held { key, session }
+}
+
 fn shown(name: &[u8], answer: u64) {
     lines::text(name);
     lines::spaced(answer);
@@ -147,6 +167,7 @@ fn step(h: Held, line: &[u8], memory: &mut [u8], wire: &mut [u8]) -> Held {
     }
     match line[0] {
         78 => return none(),
+        90 => return unsealed(h),
         77 => buffers::fill(memory, number(line, 0)),
         87 => buffers::fill(wire, number(line, 0)),
         109 => buffers::change(memory, line),

@@ -120,7 +120,7 @@ fn compare_bytes(what: &str, model: &[u8], library: &[u8]) -> Option<(String, St
 
 /// The recorded errors, read from copies: the key's by check, the session's by abandon and check.
 fn compare_slots(model: &Machine, state: &State) -> Option<(String, String)> {
-    let of_key = compare_slot("the key's", model.key.slot, &library::check(state.key));
+    let of_key = model.sealed.then(|| compare_slot("the key's", model.key.slot, &library::check(state.key))).flatten();
     of_key.or_else(|| {
         let session = model.session.as_ref()?;
         let abandoned = library::abandon(state.session);

@@ -55,7 +55,7 @@ impl Replay {
 
     /// What the files still lack, if anything.
     pub fn faults(&self) -> Vec<String> {
-        let wanted = (answer::DONE..=answer::NOT_CONFIGURED).chain([answer::NOT_A_SESSION]);
+        let wanted = (answer::DONE..=answer::NOT_CONFIGURED).chain([answer::NOT_A_KEY, answer::NOT_A_SESSION]);
         let missing = wanted.filter(|number| !self.answers.contains_key(number));
         let mut faults: Vec<String> = missing.map(|number| format!("answer {number} doesn't occur")).collect();
         if self.case_file.len() > CASE_FILE_LIMIT {

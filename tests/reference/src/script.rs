@@ -8,6 +8,7 @@ pub const BUFFER_SIZE: usize = 16_384;
 #[derive(Clone, Debug, PartialEq, Eq)]
 pub enum Call {
     New,
+    Unseal,
     FillMemory { pattern: u64 },
     FillWire { pattern: u64 },
     SetMemory { at: u64, count: u64, byte: u8 },
@@ -26,6 +27,7 @@ impl Call {
     pub fn letter(&self) -> char {
         match self {
             Call::New => 'N',
+            Call::Unseal => 'Z',
             Call::FillMemory { .. } => 'M',
             Call::FillWire { .. } => 'W',
             Call::SetMemory { .. } => 'm',
@@ -44,7 +46,7 @@ impl Call {
     /// The numbers behind the letter.
     pub fn numbers(&self) -> Vec<u64> {
         match *self {
-            Call::New | Call::Check | Call::Finish | Call::Abandon => vec![],
+            Call::New | Call::Unseal | Call::Check | Call::Finish | Call::Abandon => vec![],
             Call::FillMemory { pattern } | Call::FillWire { pattern } => vec![pattern],
             Call::SetMemory { at, count, byte } | Call::SetWire { at, count, byte } => vec![at, count, byte.into()],
             Call::Configure { memory, ref configuration } => configure_numbers(memory, configuration),
@@ -60,6 +62,7 @@ impl Call {
     pub fn from_numbers(letter: char, numbers: &[u64]) -> Option<Call> {
         Some(match (letter, numbers) {
             ('N', []) => Call::New,
+            ('Z', []) => Call::Unseal,
             ('M', &[pattern]) => Call::FillMemory { pattern },
             ('W', &[pattern]) => Call::FillWire { pattern },
             ('m', &[at, count, byte]) => Call::SetMemory { at, count, byte: byte.try_into().ok()? },
@@ -178,6 +181,8 @@ pub fn digest(buffer: &[u8]) -> u64 {
 /// The state of REPLAY.md, run by the model.
 pub struct Machine {
     pub key: Key,
+    /// The key's record bears its seal: without it, it is none.
+    pub sealed: bool,
     pub session: Option<Session>,
     pub memory: Vec<u8>,
     pub wire: Vec<u8>,
@@ -188,7 +193,7 @@ pub struct Machine {
 impl Machine {
     pub fn new(memory_size: usize, wire_size: usize) -> Machine {
         let (memory, wire) = (vec![0; memory_size], vec![0; wire_size]);
-        Machine { key: Key::default(), session: None, memory, wire, left: Vec::new() }
+        Machine { key: Key::default(), sealed: true, session: None, memory, wire, left: Vec::new() }
     }
 
     pub fn fits(&self, call: &Call) -> bool {
@@ -209,7 +214,8 @@ impl Machine {
     /// Makes the call, and gives the numbers that are printed behind its letter: none where nothing is printed.
     pub fn run(&mut self, call: &Call) -> Option<Vec<u64>> {
         match *call {
-            Call::New => (self.key, self.session) = (Key::default(), None),
+            Call::New => (self.key, self.sealed, self.session) = (Key::default(), true, None),
+            Call::Unseal => self.sealed = false,
             Call::FillMemory { pattern } => fill(&mut self.memory, pattern),
             Call::FillWire { pattern } => fill(&mut self.wire, pattern),
             Call::SetMemory { at, count, byte } => self.memory[at as usize..][..count as usize].fill(byte),
@@ -222,6 +228,11 @@ impl Machine {
     /// The calls of the interface.
     fn answer(&mut self, call: &Call) -> Vec<u64> {
         match *call {
+            Call::Configure { .. } | Call::Open { .. } if !self.sealed => vec![answer::NOT_A_KEY],
+            Call::Send { .. } | Call::Receive { .. } if !self.sealed => {
+                three_numbers(Totals::refused(answer::NOT_A_KEY))
+            }
+            Call::Check if !self.sealed => vec![answer::NOT_A_KEY, 0, 0, 0, 0],
             Call::Configure { memory, ref configuration } => {
                 vec![self.key.configure(&self.memory[..memory as usize], configuration)]
             }
@@ -270,7 +281,7 @@ impl Machine {
     fn end(&mut self, call: impl Fn(&Session) -> Result<Key, u64>) -> u64 {
         match self.session.as_ref().map_or(Err(answer::NOT_A_SESSION), call) {
             Ok(key) => {
-                (self.key, self.session) = (key, None);
+                (self.key, self.sealed, self.session) = (key, true, None);
                 answer::DONE
             }
             Err(refusal) => refusal,

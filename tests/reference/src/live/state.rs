@@ -32,6 +32,7 @@ impl State {
     pub fn run(&mut self, call: &Call) -> Option<Reply> {
         match *call {
             Call::New => (self.key, self.session) = (library::fresh(), NO_SESSION),
+            Call::Unseal => self.key.words[0] = 0,
             Call::FillMemory { pattern } => fill(self.memory.all_mut(), pattern),
             Call::FillWire { pattern } => fill(self.wire.all_mut(), pattern),
             Call::SetMemory { at, count, byte } => self.memory.part_mut(at, count).fill(byte),

@@ -11,6 +11,7 @@ pub fn cases() -> Vec<Case> {
         cases.extend([byte_by_byte(&plan), every_cut(&plan), refusals(&plan)]);
     }
     cases.extend([nothing_to_receive(), ended_sessions(), memory_lengths(), opens_over_a_session(), two_transfers()]);
+    cases.push(unsealed_key());
     cases
 }
 
@@ -131,4 +132,20 @@ fn two_transfers() -> Case {
         .then_all([plan.open(), plan.packet(0, 17), plan.packet(17, 15), Call::Finish])
         .then_all([plan.send(), plan.receive(), plan.open(), plan.packet(0, 32), Call::Finish, Call::Check])
         .then_all([plan.send(), Call::Check])
+}
+
+/// A key whose record lost its seal is none, and the session goes on without it.
+fn unsealed_key() -> Case {
+    let plan = woven_plan(signature(unsigned(), dif()));
+    prepared("a key without its seal", &plan)
+        .then_all([
+            plan.open(),
+            plan.packet(0, 9),
+            Call::Unseal,
+            plan.configure(),
+            plan.send(),
+            plan.receive(),
+            Call::Check,
+        ])
+        .then_all([plan.open(), plan.packet(9, 23), Call::Finish, Call::Check, plan.send()])
 }
