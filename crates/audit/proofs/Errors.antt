@@ -3,7 +3,9 @@ use mathlib.Core.Path.{_≡_, refl, sym, ap, _∙_}
 use mathlib.Core.Bool.{Bool, true, false, _&&_, _||_, not, cond}
 use mathlib.Core.List.{List, [], _∷_}
 use Prim.Native.Nat.{ℕ, zero, suc, _+_, _*_, _/_, _%_, _≤_, _<_}
+use native.Mathlib.Nat.{div-eq-of-lt, mod-lt, mul-add-div-right}
 use native.Mathlib.Omega.{arith}
+use lib.Arith.{mod-mul}
 use lib.Dec.{eqb, ltb}
 use lib.ListN.{getD}
 use borrow.Author.Tests.{not-true, not-false, eqb-true, eqb-false, lt-ltb, le-ltb, ltb-true, ltb-false}
@@ -135,24 +137,14 @@ module _ (bad : ℕ → Bool) where
 
 -- ---- of a block's field
 
--- the digits that a mask keeps below 64
-kept-32 : (m : ℕ) → m % 64 / 32 % 2 ≡ m / 32 % 2
-kept-32 m = omega arith
-
-kept-16 : (m : ℕ) → m % 64 / 16 % 2 ≡ m / 16 % 2
-kept-16 m = omega arith
-
-kept-8 : (m : ℕ) → m % 64 / 8 % 2 ≡ m / 8 % 2
-kept-8 m = omega arith
-
-kept-4 : (m : ℕ) → m % 64 / 4 % 2 ≡ m / 4 % 2
-kept-4 m = omega arith
-
-kept-2 : (m : ℕ) → m % 64 / 2 % 2 ≡ m / 2 % 2
-kept-2 m = omega arith
-
-kept-1 : (m : ℕ) → m % 64 / 1 % 2 ≡ m / 1 % 2
-kept-1 m = omega arith
+-- what is left of a number by j times 2 times a place keeps the digit at that place
+kept : (j place m : ℕ) → 0 < j → 0 < place → m % (j * 2 * place) / place % 2 ≡ m / place % 2
+kept j place m h p =
+    let d : m % place / place ≡ 0 = div-eq-of-lt (mod-lt m p) in
+    let top : m % (j * 2 * place) / place ≡ m / place % (j * 2) =
+    ap (λ (x : ℕ). x / place) (mod-mul m {m = j * 2} {c = place} (omega arith) p) ∙ (mul-add-div-right p (m / place % (j * 2)) (m % place) ∙ omega arith) in
+    let low : m / place % (j * 2) ≡ (m / place / 2 % j) * 2 + m / place % 2 = mod-mul (m / place) {m = j} {c = 2} h (omega arith) in
+    rw (top, low) (omega arith)
 
 -- the checked bytes as a mask: bits 7 and 6 fall out of an escaped block's
 checked-bytes : (e : Bool) (m : ℕ) → bytesIn (cond e (m % 64) m)
@@ -162,7 +154,7 @@ checked-bytes false m = refl
 checked-bytes true m =
     let a : m % 64 / 128 % 2 ≡ 0 = omega arith in
     let b : m % 64 / 64 % 2 ≡ 0 = omega arith in
-    rw (a, b, kept-32 m, kept-16 m, kept-8 m, kept-4 m, kept-2 m, kept-1 m)
+    rw (a, b, kept 1 32 m (omega arith) (omega arith), kept 2 16 m (omega arith) (omega arith), kept 4 8 m (omega arith) (omega arith), kept 8 4 m (omega arith) (omega arith), kept 16 2 m (omega arith) (omega arith), kept 32 1 m (omega arith) (omega arith))
 
 apart : _≡_ {A = Bool} false true → ⊥
 apart h = let z : _≡_ {A = ℕ} 0 1 = cc in omega arith

@@ -28,20 +28,25 @@ use Rattle.capi.specs.declared.FinishedRecord.{FinishedRecord}
 use Rattle.capi.specs.declared.AbandonedRecord.{AbandonedRecord}
 use Rattle.capi.specs.Records.{configurationOf, keyOf, keyRecord, isKey, sessionOf, sessionRecord, isSession}
 
+-- our own number for a record that is no key
 abbrev pub notKey : ℕ
 notKey = 1000
 
+-- our own number for a record that is no session
 abbrev pub notSession : ℕ
 notSession = 1001
 
 -- ---- what the calls below answer, as records
 
+-- configure
 abbrev pub configuredRecord : Configured → ConfiguredRecord
 configuredRecord c = record { key = keyRecord (c .key); answer = number (c .outcome) }
 
+-- send and receive
 abbrev pub transferredRecord : Transferred → TransferredRecord
 transferredRecord t = record { key = keyRecord (t .key); answer = number (t .outcome); taken = t .taken; written = t .written }
 
+-- check: it answers 0 besides
 abbrev pub checkedRecord : Checked → CheckedRecord
 checkedRecord c = record { key = keyRecord (c .key); answer = 0; kind = c .kind; actual = c .actual; expected = c .expected; offset = c .offset }
 
@@ -72,9 +77,11 @@ abbrev pub sessionOpened : Outcome → Opened → SessionRecord
 sessionOpened Done o = sessionRecord (o .session)
 sessionOpened (Refused r) o = noSession (keyRecord (o .key))
 
+-- open
 abbrev pub openedRecord : Opened → OpenedRecord
 openedRecord o = record { key = keyRecord (o .key); session = sessionOpened (o .outcome) o; answer = number (o .outcome) }
 
+-- packet
 abbrev pub packedRecord : Packed → PackedRecord
 packedRecord p = record { session = sessionRecord (p .session); answer = number (p .outcome); taken = p .taken; written = p .written }
 
@@ -83,41 +90,53 @@ abbrev pub sessionFinished : Outcome → Finished → SessionRecord
 sessionFinished Done f = noSession (keyRecord (f .key))
 sessionFinished (Refused r) f = sessionRecord (f .session)
 
+-- finish
 abbrev pub finishedRecord : Finished → FinishedRecord
 finishedRecord f = record { key = keyRecord (f .key); session = sessionFinished (f .outcome) f; answer = number (f .outcome) }
 
+-- abandon
 abbrev pub abandonedRecord : Abandoned → AbandonedRecord
 abandonedRecord a = record { key = keyRecord (a .key); answer = number (a .outcome) }
 
 -- ---- the calls
 
+-- garoalva_configure
 unfoldable pub configured : KeyRecord → ℕ → ConfigurationRecord → ConfiguredRecord
 configured r n c = cond (isKey r) (configuredRecord (configuring (keyOf r) n (configurationOf c))) (record { key = r; answer = notKey })
 
+-- a transfer on a record that is no key
 abbrev pub notTransferred : KeyRecord → TransferredRecord
 notTransferred r = record { key = r; answer = notKey; taken = 0; written = 0 }
 
+-- garoalva_send
 unfoldable pub sent : KeyRecord → List ℕ → List ℕ → ℕ → ℕ → TransferredRecord
 sent r memory wire x count = cond (isKey r) (transferredRecord (sending (keyOf r) memory wire x count)) (notTransferred r)
 
+-- the lent wire after it
 unfoldable pub wireAfter : KeyRecord → List ℕ → List ℕ → ℕ → ℕ → List ℕ
 wireAfter r memory wire x count = cond (isKey r) (wireSent (keyOf r) memory wire x count) wire
 
+-- garoalva_receive
 unfoldable pub received : KeyRecord → List ℕ → List ℕ → ℕ → ℕ → TransferredRecord
 received r memory wire x count = cond (isKey r) (transferredRecord (receiving (keyOf r) memory wire x count)) (notTransferred r)
 
+-- the lent memory after it
 unfoldable pub memoryAfter : KeyRecord → List ℕ → List ℕ → ℕ → ℕ → List ℕ
 memoryAfter r memory wire x count = cond (isKey r) (memoryReceived (keyOf r) memory wire x count) memory
 
+-- garoalva_check
 unfoldable pub checked : KeyRecord → CheckedRecord
 checked r = cond (isKey r) (checkedRecord (checking (keyOf r) (keyOf r .slot))) (record { key = r; answer = notKey; kind = 0; actual = 0; expected = 0; offset = 0 })
 
+-- garoalva_open
 unfoldable pub opened : KeyRecord → ℕ → ℕ → ℕ → OpenedRecord
 opened r n x count = cond (isKey r) (openedRecord (opening (keyOf r) n (record { 0 = x }) count)) (record { key = r; session = noSession r; answer = notKey })
 
+-- garoalva_packet
 unfoldable pub packed : SessionRecord → ℕ → List ℕ → PackedRecord
 packed r n bytes = cond (isSession r) (packedRecord (packing (sessionOf r) n bytes)) (record { session = r; answer = notSession; taken = 0; written = 0 })
 
+-- the lent memory after it
 unfoldable pub memoryThen : SessionRecord → List ℕ → List ℕ → List ℕ
 memoryThen r memory bytes = cond (isSession r) (memoryPacked (sessionOf r) memory bytes) memory
 
@@ -125,5 +144,6 @@ memoryThen r memory bytes = cond (isSession r) (memoryPacked (sessionOf r) memor
 unfoldable pub finished : SessionRecord → FinishedRecord
 finished r = cond (isSession r) (finishedRecord (finishing (sessionOf r))) (record { key = r .key; session = r; answer = notSession })
 
+-- garoalva_abandon
 unfoldable pub abandoned : SessionRecord → AbandonedRecord
 abandoned r = cond (isSession r) (abandonedRecord (abandoning (sessionOf r))) (record { key = r .key; answer = notSession })

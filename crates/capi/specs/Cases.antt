@@ -33,11 +33,13 @@ pub record NoKey (r : KeyRecord) : Type 0 where
   pub check : checked r ≡ record { key = r; answer = notKey; kind = 0; actual = 0; expected = 0; offset = 0 }
   pub «open» : (n x count : ℕ) → opened r n x count ≡ record { key = r; session = noSession r; answer = notKey }
 
+-- The same of a session record.
 pub record SessionActsAs (r : SessionRecord) (s : Session) : Type 0 where
   pub packet : (memory bytes : List ℕ) → (packed r (length memory) bytes ≡ packedRecord (packing s (length memory) bytes)) × (memoryThen r memory bytes ≡ memoryPacked s memory bytes)
   pub finish : finished r ≡ finishedRecord (finishing s)
   pub abandon : abandoned r ≡ abandonedRecord (abandoning s)
 
+-- Any other record where a session is wanted.
 pub record NoSession (r : SessionRecord) : Type 0 where
   pub packet : (memory bytes : List ℕ) → (packed r (length memory) bytes ≡ record { session = r; answer = notSession; taken = 0; written = 0 }) × (memoryThen r memory bytes ≡ memory)
   pub finish : finished r ≡ record { key = r .key; session = r; answer = notSession }

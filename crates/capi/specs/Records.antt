@@ -18,20 +18,25 @@ use Rattle.capi.specs.declared.KeyRecord.{KeyRecord}
 use Rattle.capi.specs.declared.SessionRecord.{SessionRecord}
 use Rattle.capi.specs.declared.converting.Numbers.{Numbers}
 
+-- a key's first word; its lowest byte is the version
 abbrev pub keySeal : ℕ
 keySeal = 0x4741524F4B455901
 
+-- a session's first word
 abbrev pub sessionSeal : ℕ
 sessionSeal = 0x4741524F53455301
 
 -- ---- signatures and configurations
 
+-- a signature as a record
 abbrev pub signatureRecord : Signature → SignatureRecord
 signatureRecord s = record { memory = s .memory; wire = s .wire; «attribute_flags» = s .«attribute_flags»; «check_mask» = s .«check_mask»; «copy_mask» = s .«copy_mask»; spare = 0 }
 
+-- and back; the spare number is ignored
 abbrev pub signatureOf : SignatureRecord → Signature
 signatureOf r = record { memory = r .memory; wire = r .wire; «attribute_flags» = r .«attribute_flags»; «check_mask» = r .«check_mask»; «copy_mask» = r .«copy_mask» }
 
+-- a configuration from its record
 abbrev pub configurationOf : ConfigurationRecord → Configuration
 configurationOf r = record { signature = signatureOf (r .signature); layout = r .layout }
 
@@ -42,15 +47,19 @@ unfoldable pub numbersOf : Slot → Numbers
 numbersOf Empty = record { kind = 0; actual = 0; expected = 0; offset = 0 }
 numbersOf (Holding e) = record { kind = errorType (e .part); actual = e .actual; expected = e .expected; offset = e .offset }
 
+-- the field of an error type
 abbrev pub partOf : ℕ → Part
 partOf t = cond (eqb t 1) Guard (cond (eqb t 2) Reference Application)
 
+-- the slot of four numbers; type 0 is an empty one
 unfoldable pub slotOf : Numbers → Slot
 slotOf n = cond (eqb (n .kind) 0) Empty (Holding (record { part = partOf (n .kind); actual = n .actual; expected = n .expected; offset = n .offset }))
 
+-- all four numbers are the same
 abbrev pub alike : Numbers → Numbers → Bool
 alike m n = eqb (m .kind) (n .kind) && eqb (m .actual) (n .actual) && eqb (m .expected) (n .expected) && eqb (m .offset) (n .offset)
 
+-- a Bool as a number
 abbrev pub flag : Bool → ℕ
 flag b = cond b 1 0
 

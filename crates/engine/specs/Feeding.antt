@@ -50,6 +50,7 @@ arrived r p b =
       slot = p .slot;
     })
 
+-- the input unit is whole
 abbrev pub whole : Rule → Progress → Bool
 whole r p = eqb (p .input .at) (inUnit r)
 
@@ -58,6 +59,7 @@ unfoldable pub fieldMade : Rule → Progress → List ℕ
 fieldMade r p =
     bytesOf (outputField (r .«copy_mask») (fieldOf (p .held)) (given (r .output) (p .output .index) (finished (r .output .«guard_type») (p .output .guard))))
 
+-- it is placed where the output is signed
 abbrev pub fieldDue : Rule → Progress → List ℕ
 fieldDue r p = cond (signed (r .output)) (fieldMade r p) []
 

@@ -23,6 +23,7 @@ use Rattle.engine.specs.Standing.{Matched}
 abbrev pub sideTaken : Domain → Bool → Side → List ℕ → Side
 sideTaken d works s xs = record { index = s .index; at = s .at + length xs; guard = cond works (advanced (d .«guard_type») (s .guard) xs) (s .guard) }
 
+-- the progress after some data bytes of one block
 abbrev pub dataTaken : Rule → Progress → List ℕ → Progress
 dataTaken r p xs = record {
   input = sideTaken (r .input) (checksGuard r) (p .input) xs;
@@ -31,6 +32,7 @@ dataTaken r p xs = record {
   slot = p .slot;
 }
 
+-- the progress after some bytes of one field
 abbrev pub fieldTaken : Rule → Progress → List ℕ → Progress
 fieldTaken r p xs = record {
   input = record { index = p .input .index; at = p .input .at + length xs; guard = p .input .guard };

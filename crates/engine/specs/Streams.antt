@@ -19,15 +19,19 @@ fieldSize d = cond (signed d) 8 0
 abbrev pub unitSize : Domain → Domain → ℕ
 unitSize d other = blockSize d other + fieldSize d
 
+-- the input's block size
 abbrev pub inBlock : Rule → ℕ
 inBlock r = blockSize (r .input) (r .output)
 
+-- the input's unit
 abbrev pub inUnit : Rule → ℕ
 inUnit r = unitSize (r .input) (r .output)
 
+-- the output's block size
 abbrev pub outBlock : Rule → ℕ
 outBlock r = blockSize (r .output) (r .input)
 
+-- the output's unit
 abbrev pub outUnit : Rule → ℕ
 outUnit r = unitSize (r .output) (r .input)
 

@@ -42,6 +42,7 @@ fieldBehind r stream j block =
     cond (signed (r .output))
     (bytesOf (outputField (r .«copy_mask») (fieldOf (inputField r stream j)) (given (r .output) j (guardBy (r .output) block)))) []
 
+-- unit j of the output stream: its block, and the field behind it
 abbrev pub outputUnit : Rule → List ℕ → ℕ → ℕ → List ℕ
 outputUnit r stream n j = outputBlock r stream n j ++ fieldBehind r stream j (outputBlock r stream n j)
 
@@ -60,6 +61,7 @@ slotOf offset (Bad m) = Holding (record { part = m .part; actual = m .actual; ex
 unfoldable pub errorBy : Rule → ℕ → ℕ → List ℕ → Slot
 errorBy r i g found = cond (signed (r .input)) (slotOf (i * inUnit r) (judged (r .input) (r .«check_mask») i g (fieldOf found))) Empty
 
+-- the error of input block i of the stream, or none
 abbrev pub errorOf : Rule → List ℕ → ℕ → Slot
 errorOf r stream i = errorBy r i (guardBy (r .input) (inputBlock r stream i)) (inputField r stream i)
 

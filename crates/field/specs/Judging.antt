@@ -30,6 +30,7 @@ differs (c ∷ cs) [] ys = []
 differs (c ∷ cs) (x ∷ xs) [] = []
 differs (c ∷ cs) (x ∷ xs) (y ∷ ys) = (c && not (eqb x y)) ∷ differs cs xs ys
 
+-- a bit as a number
 abbrev pub digit : Bool → ℕ
 digit true = 1
 digit false = 0

@@ -26,5 +26,6 @@ merged (c ∷ cs) [] ys = []
 merged (c ∷ cs) (x ∷ xs) [] = []
 merged (c ∷ cs) (x ∷ xs) (y ∷ ys) = cond c x y ∷ merged cs xs ys
 
+-- 01's output field, byte by byte: copied where the copy bit is set, else generated
 unfoldable pub outputField : ℕ → ProtectionField → ProtectionField → ProtectionField
 outputField mask copied generated = fieldOf (merged (bytesIn mask) (bytesOf copied) (bytesOf generated))

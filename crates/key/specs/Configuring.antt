@@ -47,9 +47,11 @@ pub record GoodDomain (d : Domain) : Type 0 where
 abbrev pub escapesAlways : Domain → Bool
 escapesAlways d = signed d && ((escapesByApplication d || escapesByBoth d) && eqb (d .«application_tag») 0xFFFF)
 
+-- both domains have one block size
 abbrev pub sameSize : Signature → Bool
 sameSize s = eqb (s .memory .«block_size») (s .wire .«block_size»)
 
+-- both domains are T10-DIF
 abbrev pub bothSigned : Signature → Bool
 bothSigned s = signed (s .memory) && signed (s .wire)
 

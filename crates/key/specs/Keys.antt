@@ -21,9 +21,11 @@ use Rattle.key.specs.declared.Outcome.{Outcome}
 use Rattle.key.specs.declared.Outcome.the-variants.{Done, Refused}
 use Rattle.key.specs.Configuring.{signatureAnswer, configureAnswer}
 
+-- no signature on either side, and zeros
 abbrev pub noSignature : Signature
 noSignature = record { memory = noDomain; wire = noDomain; «attribute_flags» = 0; «check_mask» = 0; «copy_mask» = 0 }
 
+-- no entries
 abbrev pub noLayout : Layout
 noLayout = record { entries = replicate 16 (record { start = record { 0 = 0 }; count = 0; skip = 0 }); used = 0; repeat = 0 }
 
@@ -39,6 +41,7 @@ withSlot k s = record { configured = k .configured; «memory_length» = k .«mem
 abbrev pub configuredKey : Key → ℕ → Configuration → Key
 configuredKey k n c = record { configured = true; «memory_length» = n; layout = c .layout; signature = c .signature; slot = k .slot }
 
+-- configure by its outcome
 abbrev pub configuredBy : Outcome → Key → ℕ → Configuration → Configured
 configuredBy Done k n c = record { outcome = Done; key = configuredKey k n c }
 configuredBy (Refused r) k n c = record { outcome = Refused r; key = k }
@@ -68,6 +71,7 @@ pub record CameFromCalls (k : Key) : Type 0 where
   pub never : k .configured ≡ false → k .slot ≡ Empty
   pub accepted : k .configured ≡ true → configureAnswer (k .«memory_length») (record { signature = k .signature; layout = k .layout }) ≡ Done
 
+-- the outcome is done
 abbrev pub accepts : Outcome → Bool
 accepts Done = true
 accepts (Refused r) = false

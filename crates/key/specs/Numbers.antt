@@ -6,6 +6,7 @@ use Rattle.key.specs.declared.Refusal.the-variants.{BadDomain, EscapeTag
 use Rattle.key.specs.declared.Outcome.{Outcome}
 use Rattle.key.specs.declared.Outcome.the-variants.{Done, Refused}
 
+-- 01's table, "Numbered answers"
 abbrev pub refusalNumber : Refusal → ℕ
 refusalNumber BadDomain = 1
 refusalNumber EscapeTag = 2
@@ -22,6 +23,7 @@ refusalNumber LongPacket = 12
 refusalNumber BytesToCome = 13
 refusalNumber NotConfigured = 14
 
+-- 0 is done
 abbrev pub number : Outcome → ℕ
 number Done = 0
 number (Refused r) = refusalNumber r

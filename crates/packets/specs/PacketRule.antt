@@ -39,9 +39,11 @@ pub data Call : Type 0 where
 
 -- The transfer: the key, the memory as it was at open, the layout byte where it begins, and its data bytes.
 module _ (k : Key) (atOpen : List ℕ) (x count : ℕ) where
+  -- the wire is the input, memory the output
   abbrev pub rule : Rule
   rule = receiveRule (k .signature)
 
+  -- the wire stream's length
   abbrev pub wire : ℕ
   wire = streamLength (k .signature .wire) count
 
@@ -63,6 +65,7 @@ module _ (k : Key) (atOpen : List ℕ) (x count : ℕ) where
   abbrev pub packetRule : List ℕ → ℕ → ℕ → Outcome
   packetRule came lent n = refuse (not (eqb lent (k .«memory_length»))) MemoryLength (refuse (ltb wire (length came + n)) LongPacket Done)
 
+  -- 13 while wire bytes are to come
   abbrev pub finishRule : List ℕ → Outcome
   finishRule came = refuse (ltb (length came) wire) BytesToCome Done
 

@@ -34,6 +34,7 @@ use Rattle.packets.specs.declared.Abandoned.{Abandoned}
 
 -- ---- open
 
+-- the session that an accepted open gives
 abbrev pub sessionOf : Key → LayoutOffset → ℕ → Session
 sessionOf k start count = record { key = k; start = start; length = count; progress = begun (receiveRule (k .signature)) Empty }
 
@@ -43,6 +44,7 @@ opening k n start count = record { outcome = openAnswer k n (start .0) count; ke
 
 -- ---- what a session says
 
+-- the rule that it goes by
 abbrev pub ruleOf : Session → Rule
 ruleOf s = receiveRule (s .key .signature)
 
@@ -50,6 +52,7 @@ ruleOf s = receiveRule (s .key .signature)
 abbrev pub takenBy : Session → ℕ
 takenBy s = taken (ruleOf s) (s .progress)
 
+-- the wire bytes of the whole transfer
 abbrev pub wireLength : Session → ℕ
 wireLength s = streamLength (s .key .signature .wire) (s .length)
 
@@ -94,6 +97,7 @@ unfoldable pub packetAnswer : Session → ℕ → ℕ → Outcome
 packetAnswer s memory n =
     refuse (not (eqb memory (s .key .«memory_length»))) MemoryLength (refuse (ltb (wireLength s) (takenBy s + n)) LongPacket Done)
 
+-- the session with another progress
 abbrev pub further : Session → Progress → Session
 further s p = record { key = s .key; start = s .start; length = s .length; progress = p }
 
@@ -102,6 +106,7 @@ abbrev pub packedBy : Outcome → Session → Progress → Packed
 packedBy Done s p = record { outcome = Done; taken = taken (ruleOf s) p; written = written (ruleOf s) p; session = further s p }
 packedBy (Refused r) s p = record { outcome = Refused r; taken = zero; written = zero; session = s }
 
+-- what packet answers
 unfoldable pub packing : Session → ℕ → List ℕ → Packed
 packing s memory bytes = packedBy (packetAnswer s memory (length bytes)) s (fed (ruleOf s) (s .progress) bytes)
 
@@ -122,8 +127,10 @@ abbrev pub finishedBy : Outcome → Session → Finished
 finishedBy Done s = record { outcome = Done; key = keyOf s; session = s }
 finishedBy (Refused r) s = record { outcome = Refused r; key = s .key; session = s }
 
+-- what finish answers
 abbrev pub finishing : Session → Finished
 finishing s = finishedBy (finishAnswer s) s
 
+-- what abandon answers: the key with the recorded error
 abbrev pub abandoning : Session → Abandoned
 abandoning s = record { outcome = Done; key = keyOf s }

@@ -34,9 +34,11 @@ becomes (Refused r) before after = before
 
 -- ---- send
 
+-- a transfer's number on these lent bytes
 abbrev pub answerOf : Key → List ℕ → List ℕ → ℕ → ℕ → Outcome
 answerOf k memory wire x count = transferAnswer k (length memory) x count (length wire)
 
+-- what send answers
 unfoldable pub sending : Key → List ℕ → List ℕ → ℕ → ℕ → Transferred
 sending k memory wire x count =
     answered (answerOf k memory wire x count) k (streamLength (k .signature .memory) count) (streamLength (k .signature .wire) count)
@@ -50,6 +52,7 @@ wireSent k memory wire x count =
 
 -- ---- receive
 
+-- what receive answers
 unfoldable pub receiving : Key → List ℕ → List ℕ → ℕ → ℕ → Transferred
 receiving k memory wire x count =
     answered (answerOf k memory wire x count) k (streamLength (k .signature .wire) count) (streamLength (k .signature .memory) count)

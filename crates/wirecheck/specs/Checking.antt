@@ -45,6 +45,7 @@ configurationA = record {
 abbrev pub received : Key → List ℕ → List ℕ → Key
 received k memory wire = receiving k memory wire 0 (length wire / 2) .key
 
+-- check's four numbers
 abbrev pub found : Checked → Answer
 found c = answer.Found (record { kind = c .kind; actual = c .actual; expected = c .expected; offset = c .offset })
 
@@ -52,6 +53,7 @@ found c = answer.Found (record { kind = c .kind; actual = c .actual; expected = 
 abbrev pub checkedAfter : Key → Answer
 checkedAfter k = found (checking k (k .slot))
 
+-- by configure's outcome: what check answers after the receive, or the refusal's number
 abbrev pub answerBy : Outcome → Key → List ℕ → List ℕ → Answer
 answerBy Done k memory wire = checkedAfter (received k memory wire)
 answerBy (Refused r) k memory wire = answer.Refused (refusalNumber r)
@@ -71,6 +73,7 @@ abbrev pub memoryBy : Outcome → Key → List ℕ → List ℕ → List ℕ
 memoryBy Done k memory wire = memoryReceived k memory wire 0 (length wire / 2)
 memoryBy (Refused r) k memory wire = memory
 
+-- the lent memory afterwards
 unfoldable pub memoryOf : List ℕ → Bool → List ℕ → List ℕ
 memoryOf wire more memory =
     cond (badInput wire more) memory
