@@ -5,3 +5,4 @@ pub mod FieldBytes
 pub mod Copying
 pub mod Escape
 pub mod CaseM
+pub mod Premise

@@ -4,3 +4,4 @@ pub mod Destination
 pub mod Copying
 pub mod Escape
 pub mod CaseM
+pub mod Premise
