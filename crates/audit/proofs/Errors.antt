@@ -18,6 +18,7 @@ use Rattle.field.specs.Tests.{bit}
 use Rattle.field.specs.Domains.{signed}
 use Rattle.field.specs.Fields.{bytesOf, bytesIn}
 use Rattle.field.specs.Judging.{escaped, checked, differs, digit, maskOf, differing, mismatch, firstBad, judged}
+use Rattle.field.proofs.Laws.{digit-small}
 use Rattle.key.specs.declared.Error.{Error}
 use Rattle.key.specs.declared.Key.{Key}
 use Rattle.key.specs.declared.Slot.{Slot}
@@ -31,10 +32,6 @@ use Rattle.transfer.specs.Transferring.{sending, receiving}
 use Rattle.audit.specs.Errors.{found, right, GoodByte, BadByte, GoodBlock, first, behind, valueOf, FirstBadPart, FirstBadBlock, Records, SendRecords, ReceiveRecords}
 
 -- ---- a set of eight bytes as a mask: which of its parts is not empty
-
-digit-small : (b : Bool) → digit b ≤ 1
-digit-small true = omega arith
-digit-small false = omega arith
 
 -- whether a number is above n, whose first two digits are a and b, and whose other digits stay within n
 above : (n : ℕ) (a b : Bool) (rest : ℕ) → rest ≤ n → ltb n (digit a * (2 * (n + 1)) + digit b * (n + 1) + rest) ≡ a || b

@@ -7,13 +7,13 @@ use Rattle.packets.specs.declared.Session.{Session}
 use Rattle.packets.specs.Sessions.{SessionFromCalls}
 use Rattle.capi.specs.declared.KeyRecord.{KeyRecord}
 use Rattle.capi.specs.declared.SessionRecord.{SessionRecord}
-use Rattle.capi.specs.Records.{keyOf, keyRecord, isKey, sessionOf, sessionRecord, isSession}
-use Rattle.capi.specs.Border.{configured, sent, wireAfter, received, memoryAfter, checked, opened, packed, memoryThen, finished, abandoned}
+use Rattle.capi.specs.Records.{keyIn, keyRecord, isKey, sessionIn, sessionRecord, isSession}
+use Rattle.capi.specs.Border.{configureAtBorder, sendAtBorder, wireAtBorder, receiveAtBorder, memoryAtBorder, checkAtBorder, openAtBorder, packetAtBorder, packetMemoryAtBorder, finishAtBorder, abandonAtBorder}
 use Rattle.capi.specs.Cases.{ActsAs, NoKey, SessionActsAs, NoSession, Border}
 use Rattle.capi.proofs.Laws.{key-round, session-round, key-told, key-back, key-passes, session-told, session-back, session-passes}
 
-acts : (r : KeyRecord) → isKey r ≡ true → ActsAs r (keyOf r)
-unfolding configured sent wireAfter received memoryAfter checked opened
+acts : (r : KeyRecord) → isKey r ≡ true → ActsAs r (keyIn r)
+unfolding configureAtBorder sendAtBorder wireAtBorder receiveAtBorder memoryAtBorder checkAtBorder openAtBorder
 acts r h = record {
   configure = λ n c. rw h refl;
   send = λ memory wire x count. rw h (refl, refl);
@@ -23,7 +23,7 @@ acts r h = record {
 }
 
 fails : (r : KeyRecord) → isKey r ≡ false → NoKey r
-unfolding configured sent wireAfter received memoryAfter checked opened
+unfolding configureAtBorder sendAtBorder wireAtBorder receiveAtBorder memoryAtBorder checkAtBorder openAtBorder
 fails r h = record {
   configure = λ n c. rw h refl;
   send = λ memory wire x count. rw h (refl, refl);
@@ -32,12 +32,12 @@ fails r h = record {
   «open» = λ n x count. rw h refl;
 }
 
-session-acts : (r : SessionRecord) → isSession r ≡ true → SessionActsAs r (sessionOf r)
-unfolding packed memoryThen finished abandoned
+session-acts : (r : SessionRecord) → isSession r ≡ true → SessionActsAs r (sessionIn r)
+unfolding packetAtBorder packetMemoryAtBorder finishAtBorder abandonAtBorder
 session-acts r h = record { packet = λ memory bytes. rw h (refl, refl); finish = rw h refl; abandon = rw h refl }
 
 session-fails : (r : SessionRecord) → isSession r ≡ false → NoSession r
-unfolding packed memoryThen finished abandoned
+unfolding packetAtBorder packetMemoryAtBorder finishAtBorder abandonAtBorder
 session-fails r h = record { packet = λ memory bytes. rw h (refl, refl); finish = rw h refl; abandon = rw h refl }
 
 came : (k : Key) → CameFromCalls k → ActsAs (keyRecord k) k

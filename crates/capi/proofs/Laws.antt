@@ -11,7 +11,7 @@ use Rattle.field.specs.declared.Part.the-variants.{Guard, Application, Referenc
 use Rattle.key.specs.declared.Key.{Key}
 use Rattle.key.specs.declared.Slot.{Slot}
 use Rattle.key.specs.declared.Slot.the-variants.{Empty, Holding}
-use Rattle.key.specs.Keys.{usable, CameFromCalls, Usable}
+use Rattle.key.specs.Keys.{checking, usable, CameFromCalls, Usable}
 use Rattle.key.proofs.Laws.{came-usable}
 use Rattle.packets.specs.declared.Session.{Session}
 use Rattle.packets.specs.Sessions.{underway, Underway, SessionFromCalls}
@@ -19,7 +19,7 @@ use Rattle.packets.proofs.PacketLaws.{underway-told, underway-passes, came-unde
 use Rattle.capi.specs.declared.KeyRecord.{KeyRecord}
 use Rattle.capi.specs.declared.SessionRecord.{SessionRecord}
 use Rattle.capi.specs.declared.converting.Numbers.{Numbers}
-use Rattle.capi.specs.Records.{keySeal, sessionSeal, numbersOf, slotOf, alike, flag, isFlag, proper, keyNumbers, keyOf, keyRecord, isKey, sessionNumbers, sessionOf, sessionRecord, isSession}
+use Rattle.capi.specs.Records.{keySeal, sessionSeal, numbersOf, slotIn, alike, flag, isFlag, proper, keyNumbers, keyIn, keyRecord, isKey, sessionNumbers, sessionIn, sessionRecord, isSession}
 
 both : (a b : Bool) → a && b ≡ true → (a ≡ true) × (b ≡ true)
 both true b h = (refl, h)
@@ -35,22 +35,22 @@ flag-passes : (b : Bool) → isFlag (flag b) ≡ true
 flag-passes true = refl
 flag-passes false = refl
 
-slot-round : (s : Slot) → slotOf (numbersOf s) ≡ s
-unfolding numbersOf slotOf
+slot-round : (s : Slot) → slotIn (numbersOf s) ≡ s
+unfolding numbersOf slotIn checking
 slot-round Empty = refl
 slot-round (Holding e) = go (e .part) (e .actual) (e .expected) (e .offset)
   where
-    go : (p : Part) (a x o : ℕ) → slotOf (numbersOf (Holding (record { part = p; actual = a; expected = x; offset = o }))) ≡ Holding (record { part = p; actual = a; expected = x; offset = o })
+    go : (p : Part) (a x o : ℕ) → slotIn (numbersOf (Holding (record { part = p; actual = a; expected = x; offset = o }))) ≡ Holding (record { part = p; actual = a; expected = x; offset = o })
     go Guard a x o = refl
     go Application a x o = refl
     go Reference a x o = refl
 
 -- Every key, as a record and back.
-pub key-round : (k : Key) → keyOf (keyRecord k) ≡ k
+pub key-round : (k : Key) → keyIn (keyRecord k) ≡ k
 key-round k = rw (flag-round (k .configured), slot-round (k .slot)) refl
 
 -- Every session.
-pub session-round : (s : Session) → sessionOf (sessionRecord s) ≡ s
+pub session-round : (s : Session) → sessionIn (sessionRecord s) ≡ s
 session-round s = rw (key-round (s .key), flag-round (s .progress .input .guard .odd), flag-round (s .progress .output .guard .odd), slot-round (s .progress .slot)) refl
 
 -- ---- what the test finds
@@ -75,13 +75,13 @@ pub record KeyTold (r : KeyRecord) : Type 0 where
   pub seal : r .seal ≡ keySeal
   pub configured : r .configured ≡ flag (eqb (r .configured) 1)
   pub spare : r .signature .spare ≡ 0
-  pub numbers : keyNumbers r ≡ numbersOf (slotOf (keyNumbers r))
-  pub usable : Usable (keyOf r)
+  pub numbers : keyNumbers r ≡ numbersOf (slotIn (keyNumbers r))
+  pub usable : Usable (keyIn r)
 
 pub key-told : (r : KeyRecord) → isKey r ≡ true → KeyTold r
 unfolding isKey
 key-told r h =
-    let a = both (eqb (r .seal) keySeal && isFlag (r .configured) && eqb (r .signature .spare) 0 && proper (keyNumbers r)) (usable (keyOf r)) h in
+    let a = both (eqb (r .seal) keySeal && isFlag (r .configured) && eqb (r .signature .spare) 0 && proper (keyNumbers r)) (usable (keyIn r)) h in
     let b = both (eqb (r .seal) keySeal && isFlag (r .configured) && eqb (r .signature .spare) 0) (proper (keyNumbers r)) (a .0) in
     let c = both (eqb (r .seal) keySeal && isFlag (r .configured)) (eqb (r .signature .spare) 0) (b .0) in
     let d = both (eqb (r .seal) keySeal) (isFlag (r .configured)) (c .0) in
@@ -89,12 +89,12 @@ key-told r h =
       seal = eqb-true (r .seal) keySeal (d .0);
       configured = eqb-true (r .configured) (flag (eqb (r .configured) 1)) (d .1);
       spare = eqb-true (r .signature .spare) 0 (c .1);
-      numbers = alike-told (keyNumbers r) (numbersOf (slotOf (keyNumbers r))) (b .1);
+      numbers = alike-told (keyNumbers r) (numbersOf (slotIn (keyNumbers r))) (b .1);
       usable = a .1;
     }
 
 -- Turned into a key and back it is itself: a refused call hands it back as it was.
-pub key-back : (r : KeyRecord) → isKey r ≡ true → keyRecord (keyOf r) ≡ r
+pub key-back : (r : KeyRecord) → isKey r ≡ true → keyRecord (keyIn r) ≡ r
 key-back r h =
     let t = key-told r h in
     rw (sym (t .numbers), ← t .configured, sym (t .seal), sym (t .spare)) refl
@@ -107,18 +107,18 @@ key-passes k came = rw (flag-passes (k .configured), proper-passes (k .slot), ke
 -- ---- sessions
 
 -- A record that passes as a session, and whose held bytes are eight, as their type says.
-pub session-told : (r : SessionRecord) → isSession r ≡ true → length (r .held) ≡ 8 → Underway (sessionOf r)
+pub session-told : (r : SessionRecord) → isSession r ≡ true → length (r .held) ≡ 8 → Underway (sessionIn r)
 unfolding isSession
 session-told r h e =
     let a = both (isKey (r .key)) _ h in
-    let b = both (eqb (r .seal) sessionSeal && isFlag (r .«input_odd») && isFlag (r .«output_odd») && proper (sessionNumbers r)) (underway (sessionOf r)) (a .1) in
-    underway-told (sessionOf r) (key-told (r .key) (a .0) .usable) (b .1) e
+    let b = both (eqb (r .seal) sessionSeal && isFlag (r .«input_odd») && isFlag (r .«output_odd») && proper (sessionNumbers r)) (underway (sessionIn r)) (a .1) in
+    underway-told (sessionIn r) (key-told (r .key) (a .0) .usable) (b .1) e
 
-pub session-back : (r : SessionRecord) → isSession r ≡ true → sessionRecord (sessionOf r) ≡ r
+pub session-back : (r : SessionRecord) → isSession r ≡ true → sessionRecord (sessionIn r) ≡ r
 unfolding isSession
 session-back r h =
     let a = both (isKey (r .key)) _ h in
-    let b = both (eqb (r .seal) sessionSeal && isFlag (r .«input_odd») && isFlag (r .«output_odd») && proper (sessionNumbers r)) (underway (sessionOf r)) (a .1) in
+    let b = both (eqb (r .seal) sessionSeal && isFlag (r .«input_odd») && isFlag (r .«output_odd») && proper (sessionNumbers r)) (underway (sessionIn r)) (a .1) in
     let c = both (eqb (r .seal) sessionSeal && isFlag (r .«input_odd») && isFlag (r .«output_odd»)) (proper (sessionNumbers r)) (b .0) in
     let d = both (eqb (r .seal) sessionSeal && isFlag (r .«input_odd»)) (isFlag (r .«output_odd»)) (c .0) in
     let f = both (eqb (r .seal) sessionSeal) (isFlag (r .«input_odd»)) (d .0) in
@@ -126,7 +126,7 @@ session-back r h =
     let o = eqb-true (r .«output_odd») (flag (eqb (r .«output_odd») 1)) (d .1) in
     rw (
       key-back (r .key) (a .0),
-      sym (alike-told (sessionNumbers r) (numbersOf (slotOf (sessionNumbers r))) (c .1)),
+      sym (alike-told (sessionNumbers r) (numbersOf (slotIn (sessionNumbers r))) (c .1)),
       ← i,
       ← o,
       sym (eqb-true (r .seal) sessionSeal (f .0)),

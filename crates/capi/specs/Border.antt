@@ -26,7 +26,7 @@ use Rattle.capi.specs.declared.OpenedRecord.{OpenedRecord}
 use Rattle.capi.specs.declared.PackedRecord.{PackedRecord}
 use Rattle.capi.specs.declared.FinishedRecord.{FinishedRecord}
 use Rattle.capi.specs.declared.AbandonedRecord.{AbandonedRecord}
-use Rattle.capi.specs.Records.{configurationOf, keyOf, keyRecord, isKey, sessionOf, sessionRecord, isSession}
+use Rattle.capi.specs.Records.{configurationIn, keyIn, keyRecord, isKey, sessionIn, sessionRecord, isSession}
 
 -- our own number for a record that is no key
 abbrev pub notKey : ℕ
@@ -101,49 +101,49 @@ abandonedRecord a = record { key = keyRecord (a .key); answer = number (a .outco
 -- ---- the calls
 
 -- garoalva_configure
-unfoldable pub configured : KeyRecord → ℕ → ConfigurationRecord → ConfiguredRecord
-configured r n c = cond (isKey r) (configuredRecord (configuring (keyOf r) n (configurationOf c))) (record { key = r; answer = notKey })
+unfoldable pub configureAtBorder : KeyRecord → ℕ → ConfigurationRecord → ConfiguredRecord
+configureAtBorder r n c = cond (isKey r) (configuredRecord (configuring (keyIn r) n (configurationIn c))) (record { key = r; answer = notKey })
 
 -- a transfer on a record that is no key
 abbrev pub notTransferred : KeyRecord → TransferredRecord
 notTransferred r = record { key = r; answer = notKey; taken = 0; written = 0 }
 
 -- garoalva_send
-unfoldable pub sent : KeyRecord → List ℕ → List ℕ → ℕ → ℕ → TransferredRecord
-sent r memory wire x count = cond (isKey r) (transferredRecord (sending (keyOf r) memory wire x count)) (notTransferred r)
+unfoldable pub sendAtBorder : KeyRecord → List ℕ → List ℕ → ℕ → ℕ → TransferredRecord
+sendAtBorder r memory wire x count = cond (isKey r) (transferredRecord (sending (keyIn r) memory wire x count)) (notTransferred r)
 
 -- the lent wire after it
-unfoldable pub wireAfter : KeyRecord → List ℕ → List ℕ → ℕ → ℕ → List ℕ
-wireAfter r memory wire x count = cond (isKey r) (wireSent (keyOf r) memory wire x count) wire
+unfoldable pub wireAtBorder : KeyRecord → List ℕ → List ℕ → ℕ → ℕ → List ℕ
+wireAtBorder r memory wire x count = cond (isKey r) (wireSent (keyIn r) memory wire x count) wire
 
 -- garoalva_receive
-unfoldable pub received : KeyRecord → List ℕ → List ℕ → ℕ → ℕ → TransferredRecord
-received r memory wire x count = cond (isKey r) (transferredRecord (receiving (keyOf r) memory wire x count)) (notTransferred r)
+unfoldable pub receiveAtBorder : KeyRecord → List ℕ → List ℕ → ℕ → ℕ → TransferredRecord
+receiveAtBorder r memory wire x count = cond (isKey r) (transferredRecord (receiving (keyIn r) memory wire x count)) (notTransferred r)
 
 -- the lent memory after it
-unfoldable pub memoryAfter : KeyRecord → List ℕ → List ℕ → ℕ → ℕ → List ℕ
-memoryAfter r memory wire x count = cond (isKey r) (memoryReceived (keyOf r) memory wire x count) memory
+unfoldable pub memoryAtBorder : KeyRecord → List ℕ → List ℕ → ℕ → ℕ → List ℕ
+memoryAtBorder r memory wire x count = cond (isKey r) (memoryReceived (keyIn r) memory wire x count) memory
 
 -- garoalva_check
-unfoldable pub checked : KeyRecord → CheckedRecord
-checked r = cond (isKey r) (checkedRecord (checking (keyOf r) (keyOf r .slot))) (record { key = r; answer = notKey; kind = 0; actual = 0; expected = 0; offset = 0 })
+unfoldable pub checkAtBorder : KeyRecord → CheckedRecord
+checkAtBorder r = cond (isKey r) (checkedRecord (checking (keyIn r) (keyIn r .slot))) (record { key = r; answer = notKey; kind = 0; actual = 0; expected = 0; offset = 0 })
 
 -- garoalva_open
-unfoldable pub opened : KeyRecord → ℕ → ℕ → ℕ → OpenedRecord
-opened r n x count = cond (isKey r) (openedRecord (opening (keyOf r) n (record { 0 = x }) count)) (record { key = r; session = noSession r; answer = notKey })
+unfoldable pub openAtBorder : KeyRecord → ℕ → ℕ → ℕ → OpenedRecord
+openAtBorder r n x count = cond (isKey r) (openedRecord (opening (keyIn r) n (record { 0 = x }) count)) (record { key = r; session = noSession r; answer = notKey })
 
 -- garoalva_packet
-unfoldable pub packed : SessionRecord → ℕ → List ℕ → PackedRecord
-packed r n bytes = cond (isSession r) (packedRecord (packing (sessionOf r) n bytes)) (record { session = r; answer = notSession; taken = 0; written = 0 })
+unfoldable pub packetAtBorder : SessionRecord → ℕ → List ℕ → PackedRecord
+packetAtBorder r n bytes = cond (isSession r) (packedRecord (packing (sessionIn r) n bytes)) (record { session = r; answer = notSession; taken = 0; written = 0 })
 
 -- the lent memory after it
-unfoldable pub memoryThen : SessionRecord → List ℕ → List ℕ → List ℕ
-memoryThen r memory bytes = cond (isSession r) (memoryPacked (sessionOf r) memory bytes) memory
+unfoldable pub packetMemoryAtBorder : SessionRecord → List ℕ → List ℕ → List ℕ
+packetMemoryAtBorder r memory bytes = cond (isSession r) (memoryPacked (sessionIn r) memory bytes) memory
 
 -- What a record that is no session gets besides its number: the key in it, as it stands, and itself.
-unfoldable pub finished : SessionRecord → FinishedRecord
-finished r = cond (isSession r) (finishedRecord (finishing (sessionOf r))) (record { key = r .key; session = r; answer = notSession })
+unfoldable pub finishAtBorder : SessionRecord → FinishedRecord
+finishAtBorder r = cond (isSession r) (finishedRecord (finishing (sessionIn r))) (record { key = r .key; session = r; answer = notSession })
 
 -- garoalva_abandon
-unfoldable pub abandoned : SessionRecord → AbandonedRecord
-abandoned r = cond (isSession r) (abandonedRecord (abandoning (sessionOf r))) (record { key = r .key; answer = notSession })
+unfoldable pub abandonAtBorder : SessionRecord → AbandonedRecord
+abandonAtBorder r = cond (isSession r) (abandonedRecord (abandoning (sessionIn r))) (record { key = r .key; answer = notSession })

@@ -9,7 +9,7 @@ use Rattle.key.specs.declared.Configuration.{Configuration}
 use Rattle.key.specs.declared.Key.{Key}
 use Rattle.key.specs.declared.Slot.{Slot}
 use Rattle.key.specs.declared.Slot.the-variants.{Empty, Holding}
-use Rattle.key.specs.Keys.{errorType, usable}
+use Rattle.key.specs.Keys.{freshKey, checking, usable}
 use Rattle.packets.specs.declared.Session.{Session}
 use Rattle.packets.specs.Sessions.{underway}
 use Rattle.capi.specs.declared.SignatureRecord.{SignatureRecord}
@@ -33,27 +33,26 @@ abbrev pub signatureRecord : Signature → SignatureRecord
 signatureRecord s = record { memory = s .memory; wire = s .wire; «attribute_flags» = s .«attribute_flags»; «check_mask» = s .«check_mask»; «copy_mask» = s .«copy_mask»; spare = 0 }
 
 -- and back; the spare number is ignored
-abbrev pub signatureOf : SignatureRecord → Signature
-signatureOf r = record { memory = r .memory; wire = r .wire; «attribute_flags» = r .«attribute_flags»; «check_mask» = r .«check_mask»; «copy_mask» = r .«copy_mask» }
+abbrev pub signatureIn : SignatureRecord → Signature
+signatureIn r = record { memory = r .memory; wire = r .wire; «attribute_flags» = r .«attribute_flags»; «check_mask» = r .«check_mask»; «copy_mask» = r .«copy_mask» }
 
 -- a configuration from its record
-abbrev pub configurationOf : ConfigurationRecord → Configuration
-configurationOf r = record { signature = signatureOf (r .signature); layout = r .layout }
+abbrev pub configurationIn : ConfigurationRecord → Configuration
+configurationIn r = record { signature = signatureIn (r .signature); layout = r .layout }
 
 -- ---- the error slot
 
--- check's four numbers
+-- the four numbers that check answers for this slot
 unfoldable pub numbersOf : Slot → Numbers
-numbersOf Empty = record { kind = 0; actual = 0; expected = 0; offset = 0 }
-numbersOf (Holding e) = record { kind = errorType (e .part); actual = e .actual; expected = e .expected; offset = e .offset }
+numbersOf s = record { kind = checking freshKey s .kind; actual = checking freshKey s .actual; expected = checking freshKey s .expected; offset = checking freshKey s .offset }
 
 -- the field of an error type
 abbrev pub partOf : ℕ → Part
 partOf t = cond (eqb t 1) Guard (cond (eqb t 2) Reference Application)
 
 -- the slot of four numbers; type 0 is an empty one
-unfoldable pub slotOf : Numbers → Slot
-slotOf n = cond (eqb (n .kind) 0) Empty (Holding (record { part = partOf (n .kind); actual = n .actual; expected = n .expected; offset = n .offset }))
+unfoldable pub slotIn : Numbers → Slot
+slotIn n = cond (eqb (n .kind) 0) Empty (Holding (record { part = partOf (n .kind); actual = n .actual; expected = n .expected; offset = n .offset }))
 
 -- all four numbers are the same
 abbrev pub alike : Numbers → Numbers → Bool
@@ -71,13 +70,13 @@ isFlag n = eqb n (flag (eqb n 1))
 abbrev pub keyNumbers : KeyRecord → Numbers
 keyNumbers r = record { kind = r .«error_type»; actual = r .«error_actual»; expected = r .«error_expected»; offset = r .«error_offset» }
 
-abbrev pub keyOf : KeyRecord → Key
-keyOf r = record {
+abbrev pub keyIn : KeyRecord → Key
+keyIn r = record {
   configured = eqb (r .configured) 1;
   «memory_length» = r .«memory_length»;
   layout = r .layout;
-  signature = signatureOf (r .signature);
-  slot = slotOf (keyNumbers r);
+  signature = signatureIn (r .signature);
+  slot = slotIn (keyNumbers r);
 }
 
 abbrev pub keyRecord : Key → KeyRecord
@@ -95,27 +94,27 @@ keyRecord k = record {
 
 -- The numbers of an error slot are those that a slot has: turning them into a slot and back gives them again.
 abbrev pub proper : Numbers → Bool
-proper n = alike n (numbersOf (slotOf n))
+proper n = alike n (numbersOf (slotIn n))
 
 -- A record is a key if it bears the seal, turning it into a key and back gives it again, and the key is one to work by.
 unfoldable pub isKey : KeyRecord → Bool
-isKey r = eqb (r .seal) keySeal && isFlag (r .configured) && eqb (r .signature .spare) 0 && proper (keyNumbers r) && usable (keyOf r)
+isKey r = eqb (r .seal) keySeal && isFlag (r .configured) && eqb (r .signature .spare) 0 && proper (keyNumbers r) && usable (keyIn r)
 
 -- ---- sessions
 
 abbrev pub sessionNumbers : SessionRecord → Numbers
 sessionNumbers r = record { kind = r .«error_type»; actual = r .«error_actual»; expected = r .«error_expected»; offset = r .«error_offset» }
 
-abbrev pub sessionOf : SessionRecord → Session
-sessionOf r = record {
-  key = keyOf (r .key);
+abbrev pub sessionIn : SessionRecord → Session
+sessionIn r = record {
+  key = keyIn (r .key);
   start = record { 0 = r .start };
   length = r .length;
   progress = record {
     input = record { index = r .«input_index»; at = r .«input_at»; guard = record { value = r .«input_guard»; odd = eqb (r .«input_odd») 1 } };
     output = record { index = r .«output_index»; at = r .«output_at»; guard = record { value = r .«output_guard»; odd = eqb (r .«output_odd») 1 } };
     held = r .held;
-    slot = slotOf (sessionNumbers r);
+    slot = slotIn (sessionNumbers r);
   };
 }
 
@@ -143,4 +142,4 @@ sessionRecord s = record {
 -- The same of a session.
 unfoldable pub isSession : SessionRecord → Bool
 isSession r =
-    isKey (r .key) && (eqb (r .seal) sessionSeal && isFlag (r .«input_odd») && isFlag (r .«output_odd») && proper (sessionNumbers r) && underway (sessionOf r))
+    isKey (r .key) && (eqb (r .seal) sessionSeal && isFlag (r .«input_odd») && isFlag (r .«output_odd») && proper (sessionNumbers r) && underway (sessionIn r))

@@ -62,7 +62,7 @@ fn part_of(kind: u32) -> Part
 }
 
 pub(crate) fn slot_of(n: Numbers) -> Slot
-    ensures { λ r. ⌜ r ≡ records.slotOf n ⌝ }
+    ensures { λ r. ⌜ r ≡ records.slotIn n ⌝ }
 {
     if n.kind == 0 {
         return Slot::Empty;
@@ -83,7 +83,7 @@ pub(crate) fn flag(b: bool) -> u32
 }
 
 fn signature_of(r: SignatureRecord) -> Signature
-    ensures { λ s. ⌜ s ≡ records.signatureOf r ⌝ }
+    ensures { λ s. ⌜ s ≡ records.signatureIn r ⌝ }
 {
     let memory = r.memory;
     let wire = r.wire;
@@ -112,7 +112,7 @@ fn signature_record(s: Signature) -> SignatureRecord
 }
 
 pub(crate) fn configuration_of(r: ConfigurationRecord) -> Configuration
-    ensures { λ c. ⌜ c ≡ records.configurationOf r ⌝ }
+    ensures { λ c. ⌜ c ≡ records.configurationIn r ⌝ }
 {
     let layout = r.layout;
     let signature = signature_of(r.signature);
@@ -131,7 +131,7 @@ pub(crate) fn key_numbers(r: KeyRecord) -> Numbers
 }
 
 pub(crate) fn key_of(r: KeyRecord) -> Key
-    ensures { λ k. ⌜ k ≡ records.keyOf r ⌝ }
+    ensures { λ k. ⌜ k ≡ records.keyIn r ⌝ }
 {
     let layout = r.layout;
     let signature = signature_of(r.signature);
@@ -177,7 +177,7 @@ pub(crate) fn session_numbers(r: SessionRecord) -> Numbers
 }
 
 pub(crate) fn session_of(r: SessionRecord) -> Session
-    ensures { λ s. ⌜ s ≡ records.sessionOf r ⌝ }
+    ensures { λ s. ⌜ s ≡ records.sessionIn r ⌝ }
 {
     let key = key_of(r.key);
     let start = LayoutOffset::new(r.start);

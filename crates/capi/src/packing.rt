@@ -74,7 +74,7 @@ pub extern "C" fn garoalva_open(
     offset: u64,
     data_length: u64,
 ) -> OpenedRecord
-    ensures { λ r. ⌜ r ≡ border.opened key (length (now (memory .entry))) offset «data_length» ⌝ }
+    ensures { λ r. ⌜ r ≡ border.openAtBorder key (length (now (memory .entry))) offset «data_length» ⌝ }
 {
     if is_key(key) {
         let o = packets::open(key_of(key), memory, LayoutOffset::new(offset), data_length);
@@ -98,8 +98,8 @@ pub extern "C" fn garoalva_packet(
     memory: &mut [u8],
     bytes: &[u8],
 ) -> PackedRecord
-    ensures { λ r. ⌜ r ≡ border.packed session (length (now (memory .entry))) (now (bytes .entry)) ⌝ }
-    ensures { λ _. ⌜ now (memory .exit) ≡ border.memoryThen session (now (memory .entry)) (now (bytes .entry)) ⌝ }
+    ensures { λ r. ⌜ r ≡ border.packetAtBorder session (length (now (memory .entry))) (now (bytes .entry)) ⌝ }
+    ensures { λ _. ⌜ now (memory .exit) ≡ border.packetMemoryAtBorder session (now (memory .entry)) (now (bytes .entry)) ⌝ }
 {
     if is_session(session) {
         let p = packets::packet(session_of(session), memory, bytes);
@@ -121,7 +121,7 @@ pub extern "C" fn garoalva_packet(
 
 #[no_mangle]
 pub extern "C" fn garoalva_finish(session: SessionRecord) -> FinishedRecord
-    ensures { λ r. ⌜ r ≡ border.finished session ⌝ }
+    ensures { λ r. ⌜ r ≡ border.finishAtBorder session ⌝ }
 {
     if is_session(session) {
         let f = packets::finish(session_of(session));
@@ -142,7 +142,7 @@ pub extern "C" fn garoalva_finish(session: SessionRecord) -> FinishedRecord
 
 #[no_mangle]
 pub extern "C" fn garoalva_abandon(session: SessionRecord) -> AbandonedRecord
-    ensures { λ r. ⌜ r ≡ border.abandoned session ⌝ }
+    ensures { λ r. ⌜ r ≡ border.abandonAtBorder session ⌝ }
 {
     if is_session(session) {
         let a = packets::abandon(session_of(session));

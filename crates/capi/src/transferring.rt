@@ -37,7 +37,7 @@ pub extern "C" fn garoalva_configure(
     memory: &[u8],
     configuration: ConfigurationRecord,
 ) -> ConfiguredRecord
-    ensures { λ r. ⌜ r ≡ border.configured key (length (now (memory .entry))) configuration ⌝ }
+    ensures { λ r. ⌜ r ≡ border.configureAtBorder key (length (now (memory .entry))) configuration ⌝ }
 {
     if is_key(key) {
         let c = key::configure(
@@ -88,8 +88,8 @@ pub extern "C" fn garoalva_send(
     offset: u64,
     data_length: u64,
 ) -> TransferredRecord
-    ensures { λ r. ⌜ r ≡ border.sent key (now (memory .entry)) (now (wire .entry)) offset «data_length» ⌝ }
-    ensures { λ _. ⌜ now (wire .exit) ≡ border.wireAfter key (now (memory .entry)) (now (wire .entry)) offset «data_length» ⌝ }
+    ensures { λ r. ⌜ r ≡ border.sendAtBorder key (now (memory .entry)) (now (wire .entry)) offset «data_length» ⌝ }
+    ensures { λ _. ⌜ now (wire .exit) ≡ border.wireAtBorder key (now (memory .entry)) (now (wire .entry)) offset «data_length» ⌝ }
 {
     if is_key(key) {
         let x = LayoutOffset::new(offset);
@@ -106,8 +106,8 @@ pub extern "C" fn garoalva_receive(
     offset: u64,
     data_length: u64,
 ) -> TransferredRecord
-    ensures { λ r. ⌜ r ≡ border.received key (now (memory .entry)) (now (wire .entry)) offset «data_length» ⌝ }
-    ensures { λ _. ⌜ now (memory .exit) ≡ border.memoryAfter key (now (memory .entry)) (now (wire .entry)) offset «data_length» ⌝ }
+    ensures { λ r. ⌜ r ≡ border.receiveAtBorder key (now (memory .entry)) (now (wire .entry)) offset «data_length» ⌝ }
+    ensures { λ _. ⌜ now (memory .exit) ≡ border.memoryAtBorder key (now (memory .entry)) (now (wire .entry)) offset «data_length» ⌝ }
 {
     if is_key(key) {
         let x = LayoutOffset::new(offset);
@@ -118,7 +118,7 @@ pub extern "C" fn garoalva_receive(
 
 #[no_mangle]
 pub extern "C" fn garoalva_check(key: KeyRecord) -> CheckedRecord
-    ensures { λ r. ⌜ r ≡ border.checked key ⌝ }
+    ensures { λ r. ⌜ r ≡ border.checkAtBorder key ⌝ }
 {
     if is_key(key) {
         let c = key::check(key_of(key));

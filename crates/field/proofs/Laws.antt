@@ -12,7 +12,7 @@ use Rattle.field.specs.Fields.{bytesOf, fieldOf, given}
 use Rattle.field.specs.Judging.{escaped, checked, differs, digit, maskOf, differing, firstBad, judged}
 use Rattle.field.specs.Output.{merged, outputField}
 
-digit-small : (b : Bool) → digit b ≤ 1
+pub digit-small : (b : Bool) → digit b ≤ 1
 digit-small true = omega arith
 digit-small false = omega arith
 

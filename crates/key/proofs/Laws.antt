@@ -15,7 +15,7 @@ use Rattle.layout.specs.declared.answer.Verdict.{Verdict}
 use Rattle.layout.specs.declared.answer.Verdict.the-variants.{Sound, Malformed, Outside, Overlapping}
 use Rattle.layout.specs.Pieces.{size, total}
 use Rattle.layout.specs.Answers.{verdictOn, fits}
-use Rattle.layout.proofs.AnswerLaws.{fits-told}
+use Rattle.layout.proofs.AnswerLaws.{or-false, fits-told}
 use Rattle.layout.proofs.CountLaws.{sound-fits}
 use Rattle.layout.specs.Steps.{Fits}
 use Rattle.key.specs.declared.Signature.{Signature}
@@ -34,10 +34,6 @@ use Rattle.key.specs.Streams.{streamLength, Sized}
 use Rattle.key.specs.Admitting.{partial, openAnswer, transferAnswer, Bounded, Blocks, Admitted}
 
 -- ---- tests
-
-or-false : (a b : Bool) → a || b ≡ false → (a ≡ false) × (b ≡ false)
-or-false true b h = let z : _≡_ {A = ℕ} 0 1 = cc in absurd (omega arith)
-or-false false b h = (refl, h)
 
 not-false : (a : Bool) → not a ≡ false → a ≡ true
 not-false true h = refl

@@ -1,18 +1,18 @@
 use borrow.Author.Tests.{eq-eqb, ne-eqb}
-use Rattle.capi.specs.Records.{slotOf}
+use Rattle.capi.specs.Records.{slotIn}
 use borrow.Author.Needs.{needs}
 use Rattle.capi.proofs.converting.slot_of.Statement.{statement}
 use Rattle.capi.proofs.converting.slot_of.Tie as tie
 
 returns : tie.Need-returns
-unfolding slotOf
+unfolding slotIn
 returns c = rw (eq-eqb _ _ (c .if1 .taken))
 
 part-of-requires : tie.Need-part-of-requires
 part-of-requires c κs = search needs
 
 returns-2 : tie.Need-returns-2
-unfolding slotOf
+unfolding slotIn
 returns-2 c = rw (c .part-of .ensures, ne-eqb _ _ (c .before .if1 .left))
 
 pub slot-of-spec : {M : Type 1} → statement M

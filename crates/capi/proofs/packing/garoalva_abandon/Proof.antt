@@ -1,5 +1,5 @@
 use mathlib.Core.Path.{sym, _∙_}
-use Rattle.capi.specs.Border.{abandoned}
+use Rattle.capi.specs.Border.{abandonAtBorder}
 use Rattle.capi.proofs.Laws.{session-told}
 use borrow.Author.Needs.{needs}
 use Rattle.capi.proofs.packing.garoalva_abandon.Statement.{statement}
@@ -24,11 +24,11 @@ wide-requires : tie.Need-wide-requires
 wide-requires c κs = search needs
 
 returns : tie.Need-returns
-unfolding abandoned
+unfolding abandonAtBorder
 returns c = rw (c .wide .ensures, c .before .number .ensures, c .before .before .key-record .ensures, c .before .before .before .abandon .ensures, c .before .before .before .before .session-of .ensures, sym (c .before .before .before .before .before .before .is-session .ensures .0) ∙ c .before .before .before .before .before .if1 .taken)
 
 returns-2 : tie.Need-returns-2
-unfolding abandoned
+unfolding abandonAtBorder
 returns-2 c = rw (sym (c .before .before .is-session .ensures .0) ∙ c .before .if1 .left)
 
 pub garoalva-abandon-spec : {M : Type 1} → statement M

@@ -1,5 +1,5 @@
 use mathlib.Core.Path.{sym, _∙_}
-use Rattle.capi.specs.Border.{finished}
+use Rattle.capi.specs.Border.{finishAtBorder}
 use Rattle.capi.proofs.Laws.{session-told}
 use borrow.Author.Needs.{needs}
 use Rattle.capi.proofs.packing.garoalva_finish.Statement.{statement}
@@ -27,11 +27,11 @@ wide-requires : tie.Need-wide-requires
 wide-requires c κs = search needs
 
 returns : tie.Need-returns
-unfolding finished
+unfolding finishAtBorder
 returns c = rw (c .wide .ensures, c .before .number .ensures, c .before .before .session-finished .ensures, c .before .before .before .key-record .ensures, c .before .before .before .before .finish .ensures, c .before .before .before .before .before .session-of .ensures, sym (c .before .before .before .before .before .before .before .is-session .ensures .0) ∙ c .before .before .before .before .before .before .if1 .taken)
 
 returns-2 : tie.Need-returns-2
-unfolding finished
+unfolding finishAtBorder
 returns-2 c = rw (sym (c .before .before .is-session .ensures .0) ∙ c .before .if1 .left)
 
 pub garoalva-finish-spec : {M : Type 1} → statement M

@@ -1,5 +1,5 @@
 use mathlib.Core.Path.{sym, _∙_}
-use Rattle.capi.specs.Border.{opened}
+use Rattle.capi.specs.Border.{openAtBorder}
 use Rattle.capi.proofs.Laws.{key-told}
 use borrow.Author.Needs.{needs}
 use Rattle.capi.proofs.packing.garoalva_open.Statement.{statement}
@@ -30,14 +30,14 @@ wide-requires : tie.Need-wide-requires
 wide-requires c κs = search needs
 
 returns : tie.Need-returns
-unfolding opened
+unfolding openAtBorder
 returns c = rw (c .wide .ensures, c .before .number .ensures, c .before .before .session-opened .ensures, c .before .before .before .key-record .ensures, c .before .before .before .before .«open» .ensures, c .before .before .before .before .before .new .ensures, c .before .before .before .before .before .before .key-of .ensures, sym (c .before .before .before .before .before .before .before .before .is-key .ensures) ∙ c .before .before .before .before .before .before .before .if1 .taken)
 
 no-session-requires : tie.Need-no-session-requires
 no-session-requires c κs = search needs
 
 returns-2 : tie.Need-returns-2
-unfolding opened
+unfolding openAtBorder
 returns-2 c = rw (c .no-session .ensures, sym (c .before .before .is-key .ensures) ∙ c .before .if1 .left)
 
 pub garoalva-open-spec : {M : Type 1} → statement M

@@ -1,5 +1,5 @@
 use mathlib.Core.Path.{refl, sym, _∙_}
-use Rattle.capi.specs.Border.{packed, memoryThen}
+use Rattle.capi.specs.Border.{packetAtBorder, packetMemoryAtBorder}
 use Rattle.capi.proofs.Laws.{session-told}
 use borrow.Author.Needs.{needs}
 use Rattle.capi.proofs.packing.garoalva_packet.Statement.{statement}
@@ -27,14 +27,14 @@ same-length : tie.Need-same-length
 same-length c = search needs
 
 returns : tie.Need-returns
-unfolding packed memoryThen
+unfolding packetAtBorder packetMemoryAtBorder
 returns c =
     let p = c .before .before .before .before .before in
     rw (c .wide .ensures, c .before .number .ensures, c .before .before .session-record .ensures, p .packet .ensures .0, p .before .before .session-of .ensures, sym (c .before .before .before .before .before .before .before .before .before .is-session .ensures .0) ∙ c .before .before .before .before .before .before .before .before .if1 .taken)
     (refl, p .packet .ensures .1 ∙ rw (p .before .before .session-of .ensures))
 
 returns-2 : tie.Need-returns-2
-unfolding packed memoryThen
+unfolding packetAtBorder packetMemoryAtBorder
 returns-2 c = rw (sym (c .before .is-session .ensures .0) ∙ c .if1 .left) (refl, refl)
 
 pub garoalva-packet-spec : {M : Type 1} → statement M

@@ -1,5 +1,5 @@
 use mathlib.Core.Path.{sym, _∙_}
-use Rattle.capi.specs.Border.{checked}
+use Rattle.capi.specs.Border.{checkAtBorder}
 use borrow.Author.Needs.{needs}
 use Rattle.capi.proofs.transferring.garoalva_check.Statement.{statement}
 use Rattle.capi.proofs.transferring.garoalva_check.Tie as tie
@@ -26,13 +26,13 @@ wide-requires-3 : tie.Need-wide-requires-3
 wide-requires-3 c κs = search needs
 
 returns : tie.Need-returns
-unfolding checked
+unfolding checkAtBorder
 returns c =
     let i = c .before .before .before .before .before .before .before in
     rw (c .wide3 .ensures, c .before .wide2 .ensures, c .before .before .wide .ensures, c .before .before .before .key-record .ensures, c .before .before .before .before .check .ensures, c .before .before .before .before .before .key-of .ensures, sym (i .is-key .ensures) ∙ c .before .before .before .before .before .before .if1 .taken)
 
 returns-2 : tie.Need-returns-2
-unfolding checked
+unfolding checkAtBorder
 returns-2 c = rw (sym (c .before .is-key .ensures) ∙ c .if1 .left)
 
 pub garoalva-check-spec : {M : Type 1} → statement M

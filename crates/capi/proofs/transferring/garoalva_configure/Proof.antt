@@ -1,5 +1,5 @@
 use mathlib.Core.Path.{sym, _∙_}
-use Rattle.capi.specs.Border.{configured}
+use Rattle.capi.specs.Border.{configureAtBorder}
 use borrow.Author.Needs.{needs}
 use Rattle.capi.proofs.transferring.garoalva_configure.Statement.{statement}
 use Rattle.capi.proofs.transferring.garoalva_configure.Tie as tie
@@ -26,13 +26,13 @@ wide-requires : tie.Need-wide-requires
 wide-requires c κs = search needs
 
 returns : tie.Need-returns
-unfolding configured
+unfolding configureAtBorder
 returns c =
     let t = c .before .before .before .before .before in
     rw (c .wide .ensures, c .before .number .ensures, c .before .before .key-record .ensures, c .before .before .before .configure .ensures, c .before .before .before .before .configuration-of .ensures, t .key-of .ensures, sym (t .before .before .is-key .ensures) ∙ t .before .if1 .taken)
 
 returns-2 : tie.Need-returns-2
-unfolding configured
+unfolding configureAtBorder
 returns-2 c = rw (sym (c .before .is-key .ensures) ∙ c .if1 .left)
 
 pub garoalva-configure-spec : {M : Type 1} → statement M

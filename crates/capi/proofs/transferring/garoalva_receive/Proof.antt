@@ -1,5 +1,5 @@
 use mathlib.Core.Path.{refl, sym, _∙_}
-use Rattle.capi.specs.Border.{received, memoryAfter}
+use Rattle.capi.specs.Border.{receiveAtBorder, memoryAtBorder}
 use Rattle.capi.proofs.Laws.{key-told}
 use borrow.Author.Needs.{needs}
 use Rattle.capi.proofs.transferring.garoalva_receive.Statement.{statement}
@@ -24,7 +24,7 @@ same-length : tie.Need-same-length
 same-length c = search needs
 
 returns : tie.Need-returns
-unfolding received memoryAfter
+unfolding receiveAtBorder memoryAtBorder
 returns c =
     let t = c .before .before .before in
     rw (c .transferred .ensures, t .receive .ensures .0, t .before .before .key-of .ensures, t .before .before .before .new .ensures, sym (c .before .before .before .before .before .before .before .before .is-key .ensures) ∙ c .before .before .before .before .before .before .before .if1 .taken)
@@ -34,7 +34,7 @@ not-a-key-requires : tie.Need-not-a-key-requires
 not-a-key-requires c κs = search needs
 
 returns-2 : tie.Need-returns-2
-unfolding received memoryAfter
+unfolding receiveAtBorder memoryAtBorder
 returns-2 c = rw (c .not-a-key .ensures, sym (c .before .before .is-key .ensures) ∙ c .before .if1 .left) (refl, refl)
 
 pub garoalva-receive-spec : {M : Type 1} → statement M
