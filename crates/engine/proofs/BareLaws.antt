@@ -5,21 +5,21 @@ use mathlib.Core.List.{List, [], _∷_, _++_}
 use Prim.Native.Nat.{ℕ, suc, _+_, _-_, _^_, _≤_, _<_}
 use native.Mathlib.Omega.{arith}
 use lib.Dec.{ltb}
-use lib.ListN.{length, drop}
+use lib.ListN.{length}
 use borrow.Author.Tests.{lt-ltb, eq-eqb}
 use Rattle.field.specs.Domains.{signed}
 use Rattle.key.specs.Keys.{keep}
 use Rattle.key.proofs.Laws.{keep-none}
 use Rattle.layout.specs.declared.Layout.{Layout}
-use Rattle.layout.specs.Pieces.{places, total}
-use Rattle.layout.specs.Moves.{scattered}
-use Rattle.layout.proofs.MoveLaws.{scattered-none}
+use Rattle.layout.specs.declared.walking.Cursor.{Cursor}
+use Rattle.layout.specs.Cursors.{ahead, Stands, Stored}
+use Rattle.layout.proofs.CursorLaws.{stored-nothing}
 use Rattle.engine.specs.declared.Rule.{Rule}
 use Rattle.engine.specs.declared.Progress.{Progress}
 use Rattle.engine.specs.Streams.{blockSize, fieldSize, inBlock, inUnit}
 use Rattle.engine.specs.Transfers.{errorBy}
 use Rattle.engine.specs.Feeding.{sideAt, arrived, whole, errorDue, settled, placed, shown, fed, emitted}
-use Rattle.engine.specs.Parts.{written, InStep, Room, Fed, Bare, Countable}
+use Rattle.engine.specs.Parts.{InStep, Room, Feeds, Bare, Countable}
 use Rattle.engine.proofs.PartLaws.{countable}
 
 -- the progress n bytes further on
@@ -79,27 +79,27 @@ module _ (r : Rule) (b : Bare r) where
   bare-emitted p h [] = refl
   bare-emitted p h (x ∷ xs) = rw (one-shown p h x, one-byte p h x, bare-emitted (moved r p 1) refl xs)
 
-  module _ (p : Progress) (l : Layout) (x : ℕ) (before bytes : List ℕ) (s : InStep r p) (k : p .input .at < inUnit r) where
+  module _ (p : Progress) (l : Layout) (c : Cursor) (before bytes : List ℕ) (s : InStep r p) (k : p .input .at < inUnit r) where
     at-start : p .input .at ≡ 0
     at-start = omega (arith, one-unit)
 
     -- room for the bytes, and for counting them
-    pub bare-room : (m : ℕ) → Room r p l m x (length (emitted r p bytes)) → (x + written r p + length bytes ≤ total l) × Countable r p × (length bytes ≤ 2 ^ 40)
+    pub bare-room : (m : ℕ) → Room r p l c m (length (emitted r p bytes)) → (length bytes ≤ length (ahead l c)) × Countable r p × (length bytes ≤ 2 ^ 40)
     bare-room m R =
         let e = ap length (bare-emitted p at-start bytes) in
-        (omega (arith, R .fits), countable r p s (omega (arith, R .fits, R .small)), omega (arith, R .fits, R .small))
+        (omega (arith, R .fits), countable r p s (omega (arith, R .small)), omega (arith, R .fits, R .small))
 
-    pub bare-none : length bytes ≡ 0 → Fed r p l x before bytes p before
+    pub bare-none : length bytes ≡ 0 → Stands l c → Feeds r p l c before bytes (record { progress = p; cursor = c }) before
     unfolding fed emitted
-    bare-none e = go bytes e
+    bare-none e t = go bytes e
       where
-        go : (ys : List ℕ) → length ys ≡ 0 → Fed r p l x before ys p before
-        go [] z = record { progress = refl; memory = sym (scattered-none before (drop (x + written r p) (places l))) }
+        go : (ys : List ℕ) → length ys ≡ 0 → Feeds r p l c before ys (record { progress = p; cursor = c }) before
+        go [] z = record { progress = refl; stored = stored-nothing l c before t }
         go (y ∷ ys) z = absurd (omega arith)
 
-    pub bare-done : (length bytes ≡ 0 → ⊥) → (after : List ℕ) → after ≡ scattered before (drop (x + written r p) (places l)) bytes
-        → Fed r p l x before bytes (moved r p (length bytes)) after
-    bare-done n after e = record { progress = go bytes n; memory = rw (bare-emitted p at-start bytes) e }
+    pub bare-done : (length bytes ≡ 0 → ⊥) → (d : Cursor) (after : List ℕ) → Stored l c before bytes d after
+        → Feeds r p l c before bytes (record { progress = moved r p (length bytes); cursor = d }) after
+    bare-done n d after e = record { progress = go bytes n; stored = rw (bare-emitted p at-start bytes) e }
       where
         go : (ys : List ℕ) → (length ys ≡ 0 → ⊥) → moved r p (length ys) ≡ fed r p ys
         go [] z = absurd (z refl)

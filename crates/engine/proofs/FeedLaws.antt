@@ -1,22 +1,26 @@
 -- Feeding a part, and then the rest. Assumes nothing.
 use mathlib.Core.Path.{_≡_, refl, sym, ap, _∙_}
 use mathlib.Core.List.{List, [], _∷_, _++_, append-nil}
-use Prim.Native.Nat.{ℕ, _+_, _-_, _*_, _≤_, _<_, min}
+use Prim.Native.Nat.{ℕ, _+_, _-_, _*_, _^_, _≤_, _<_, min}
 use native.Mathlib.Decide.{decLt}
 use native.Mathlib.Omega.{arith}
-use lib.ListN.{length, take, drop, length-append, take-append-drop}
-use lib.Seq.{drop-drop, length-take-le}
+use lib.ListN.{length, take, drop, length-append, length-drop, take-append-drop}
+use lib.Seq.{length-take-le}
+use borrow.Author.Tests.{lt-ltb, le-ltb}
 use Rattle.layout.specs.declared.Layout.{Layout}
+use Rattle.layout.specs.declared.walking.Cursor.{Cursor}
 use Rattle.key.specs.declared.Slot.{Slot}
-use Rattle.layout.specs.Pieces.{places, total}
-use Rattle.layout.specs.Moves.{scattered}
-use Rattle.layout.proofs.MoveLaws.{scattered-append, scattered-none, length-scattered}
+use Rattle.layout.specs.Pieces.{total}
+use Rattle.layout.specs.Moves.{Placed}
+use Rattle.layout.specs.Cursors.{ahead, Stands, Walked, Stored, Storing}
+use Rattle.layout.proofs.CursorLaws.{walked-left, stored-nothing, stored-append, stored-size, storing-on, storing-end}
 use Rattle.engine.specs.declared.Rule.{Rule}
 use Rattle.engine.specs.declared.Progress.{Progress}
+use Rattle.engine.specs.declared.Fed.{Fed}
 use Rattle.engine.specs.Streams.{inBlock, inUnit, outUnit}
 use Rattle.engine.specs.Feeding.{arrived, settled, placed, shown, fed, emitted, begun}
 use Rattle.engine.specs.Standing.{Matched}
-use Rattle.engine.specs.Parts.{dataTaken, fieldTaken, taken, written, InStep, Room, Fed, Settled, Holds, OnePart, Going}
+use Rattle.engine.specs.Parts.{dataTaken, fieldTaken, partTaken, partShown, taken, written, InStep, Room, Feeds, Settled, Arrives, Holds, OnePart, Going}
 use Rattle.engine.proofs.Arriving.{field-small}
 use Rattle.engine.proofs.Units.{unit-within}
 use Rattle.engine.proofs.PartLaws.{data-part, field-part, in-step-data, in-step-field, in-step-settled, written-settled, taken-settled, taken-arrived}
@@ -42,48 +46,79 @@ module _ (r : Rule) (p : Progress) (xs : List ℕ) (some : 0 < length xs) (o : O
   pub field-holds : inBlock r ≤ p .input .at → InStep r p → Holds r p (length xs)
   field-holds h s = record { field = h; fits = omega (arith, o .unit, field-small (r .input)); small = s .matched .most; eight = s .eight }
 
+  -- A part at once, data or field.
+  part-fed : (fed r p xs ≡ settled r (partTaken r p xs)) × (emitted r p xs ≡ partShown r p xs ++ placed r (partTaken r p xs))
+  part-fed = go (decLt (p .input .at) (inBlock r))
+    where
+      go : Dec (p .input .at < inBlock r) → (fed r p xs ≡ settled r (partTaken r p xs)) × (emitted r p xs ≡ partShown r p xs ++ placed r (partTaken r p xs))
+      go (yes h) = rw (lt-ltb (p .input .at) (inBlock r) h) (data-fed h)
+      go (no h) = rw (le-ltb (p .input .at) (inBlock r) (omega (arith, h))) (field-fed (omega (arith, h)))
+
+  -- It keeps both sides in step, and as much is written as it shows.
+  pub part-in-step : InStep r p → InStep r (partTaken r p xs) × (written r (partTaken r p xs) ≡ written r p + length (partShown r p xs))
+  part-in-step s = go (decLt (p .input .at) (inBlock r))
+    where
+      go : Dec (p .input .at < inBlock r) → InStep r (partTaken r p xs) × (written r (partTaken r p xs) ≡ written r p + length (partShown r p xs))
+      go (yes h) = rw (lt-ltb (p .input .at) (inBlock r) h) (in-step-data r p s xs (o .block h), omega arith)
+      go (no h) = rw (le-ltb (p .input .at) (inBlock r) (omega (arith, h))) (in-step-field r p s xs (omega (arith, h)) (o .unit), omega arith)
+
+  shown-length : length (emitted r p xs) ≡ length (partShown r p xs) + length (placed r (partTaken r p xs))
+  shown-length = ap length (part-fed .1) ∙ length-append (partShown r p xs) (placed r (partTaken r p xs))
+
   -- After a part both sides are in step, a unit is begun, and what is written has grown by what was placed.
   pub part-after : InStep r p → InStep r (fed r p xs) × (fed r p xs .input .at < inUnit r) × (written r (fed r p xs) ≡ written r p + length (emitted r p xs))
-  part-after s = go (decLt (p .input .at) (inBlock r))
-    where
-      go : Dec (p .input .at < inBlock r) → InStep r (fed r p xs) × (fed r p xs .input .at < inUnit r) × (written r (fed r p xs) ≡ written r p + length (emitted r p xs))
-      go (yes h) =
-          let t = in-step-data r p s xs (o .block h) in
-          let e = in-step-settled r (dataTaken r p xs) t in
-          rw (data-fed h .0, data-fed h .1) (e .0, e .1, written-settled r (dataTaken r p xs) t ∙ rw (length-append xs (placed r (dataTaken r p xs))) (omega arith))
-      go (no h) =
-          let g : inBlock r ≤ p .input .at = omega (arith, h) in
-          let t = in-step-field r p s xs g (o .unit) in
-          let e = in-step-settled r (fieldTaken r p xs) t in
-          rw (field-fed g .0, field-fed g .1) (e .0, e .1, written-settled r (fieldTaken r p xs) t)
+  part-after s =
+      let t = part-in-step s in
+      let e = in-step-settled r (partTaken r p xs) (t .0) in
+      let w = written-settled r (partTaken r p xs) (t .0) in
+      rw (part-fed .0) (e .0, e .1, omega (arith, w, t .1, shown-length))
 
-  module _ (l : Layout) (x : ℕ) where
-    -- stores behind stores
-    behind : (before : List ℕ) (n : ℕ) (ys : List ℕ) → scattered before (drop n (places l)) (xs ++ ys) ≡ scattered (scattered before (drop n (places l)) xs) (drop (n + length xs) (places l)) ys
-    behind before n ys = scattered-append before (drop n (places l)) xs ys ∙ rw (drop-drop (length xs) n (places l))
+  module _ (l : Layout) (c : Cursor) where
+    -- room for data
+    pub data-room : (m : ℕ) → p .input .at < inBlock r → Room r p l c m (length (emitted r p xs)) → length xs ≤ length (ahead l c)
+    data-room m h R = omega (arith, R .fits, ap length (data-fed h .1), length-append xs (placed r (dataTaken r p xs)))
 
-    module _ (h : p .input .at < inBlock r) where
-      pub data-room : (m m′ : ℕ) → m′ ≡ m → Room r p l m x (length (emitted r p xs))
-          → (x + written r p + length xs ≤ total l) × Room r (dataTaken r p xs) l m′ x (length (placed r (dataTaken r p xs)))
-      data-room m m′ e R =
-          let n : length (emitted r p xs) ≡ length xs + length (placed r (dataTaken r p xs)) = ap length (data-fed h .1) ∙ length-append xs (placed r (dataTaken r p xs)) in
-          (omega (arith, R .fits), record { placed = rw e (R .placed); fits = omega (arith, R .fits); small = R .small })
+    -- a part that arrived as data, or as a part of the field
+    pub arrives-data : p .input .at < inBlock r → (before : List ℕ) (q : Progress) (d : Cursor) (after : List ℕ) → q ≡ dataTaken r p xs → Stored l c before xs d after
+        → Arrives r p l c before xs (record { progress = q; cursor = d }) after
+    arrives-data h before q d after e s = record { progress = rw (lt-ltb (p .input .at) (inBlock r) h) e; stored = rw (lt-ltb (p .input .at) (inBlock r) h) s }
 
-      pub data-done : (before mid : List ℕ) (q : Progress) (after : List ℕ) → mid ≡ scattered before (drop (x + written r p) (places l)) xs
-          → Settled r (dataTaken r p xs) l x mid q after → Fed r p l x before xs q after
-      data-done before mid q after e S =
-          let w : x + written r (dataTaken r p xs) ≡ x + written r p + length xs = omega arith in
+    pub arrives-field : inBlock r ≤ p .input .at → (before : List ℕ) (q : Progress) → q ≡ fieldTaken r p xs → Stands l c
+        → Arrives r p l c before xs (record { progress = q; cursor = c }) before
+    arrives-field h before q e s = record { progress = rw (le-ltb (p .input .at) (inBlock r) h) e; stored = rw (le-ltb (p .input .at) (inBlock r) h) (stored-nothing l c before s) }
+
+    module _ (before : List ℕ) (a : Fed) (mid : List ℕ) (A : Arrives r p l c before xs a mid) where
+      -- room for what settling places
+      pub arrived-room : InStep r p → Room r p l c (length before) (length (emitted r p xs))
+          → InStep r (a .progress) × Room r (a .progress) l (a .cursor) (length mid) (length (placed r (a .progress)))
+      arrived-room s R =
+          let t = part-in-step s in
+          let left : length (ahead l (a .cursor)) ≡ length (ahead l c) - length (partShown r p xs) = ap length (A .stored .on) ∙ length-drop (length (partShown r p xs)) (ahead l c) in
+          rw (A .progress, stored-size (A .stored)) (
+            t .0,
+            record {
+              placed = R .placed;
+              stands = A .stored .stands;
+              fits = omega (arith, R .fits, left, shown-length);
+              small = omega (arith, R .fits, R .small, left, shown-length, t .1);
+            },
+          )
+
+      -- and what both have done
+      pub arrived-done : (f : Fed) (after : List ℕ) → Settled r (a .progress) l (a .cursor) mid f after → Feeds r p l c before xs f after
+      arrived-done f after S =
+          let T = rw (A .progress) at S in
           record {
-            progress = S .progress ∙ sym (data-fed h .0);
-            memory = S .memory ∙ rw (data-fed h .1, behind before (x + written r p) (placed r (dataTaken r p xs)), w, e);
+            progress = T .progress ∙ sym (part-fed .0);
+            stored = rw (part-fed .1) (stored-append l c (a .cursor) (f .cursor) before mid after (partShown r p xs) (placed r (partTaken r p xs)) (A .stored) (T .stored));
           }
 
-    module _ (h : inBlock r ≤ p .input .at) where
-      pub field-room : (m : ℕ) → Room r p l m x (length (emitted r p xs)) → Room r (fieldTaken r p xs) l m x (length (placed r (fieldTaken r p xs)))
-      field-room m R = record { placed = R .placed; fits = omega (arith, R .fits, ap length (field-fed h .1)); small = R .small }
-
-      pub field-done : (before : List ℕ) (q : Progress) (after : List ℕ) → Settled r (fieldTaken r p xs) l x before q after → Fed r p l x before xs q after
-      field-done before q after S = record { progress = S .progress ∙ sym (field-fed h .0); memory = S .memory ∙ rw (field-fed h .1) }
+-- Room ahead of a cursor at layout byte x, where no more is written than lies before it.
+pub room-at : (r : Rule) (p : Progress) (l : Layout) (x : ℕ) (c : Cursor) (memory more : ℕ) → Placed l memory → Walked l x c → written r p ≤ x → x + more ≤ total l → total l ≤ 2 ^ 40
+    → Room r p l c memory more
+room-at r p l x c memory more placed w h k small =
+    let left = walked-left l x c w in
+    record { placed = placed; stands = w .stands; fits = omega (arith, left); small = omega (arith, left) }
 
 -- At the start the sides are in step.
 pub begun-in-step : (r : Rule) (slot : Slot) → Matched r → InStep r (begun r slot)
@@ -126,52 +161,66 @@ written-within r p s h n t = go (decLt (p .input .index) n)
             let z : p .input .at ≡ 0 = omega (arith, ap (λ (i : ℕ). i * inUnit r) e) in
             rw (e, z) (omega arith)
 
-module _ (r : Rule) (p : Progress) (l : Layout) (x : ℕ) (before bytes : List ℕ) where
-  pub going-start : (m : ℕ) → m ≡ length before → InStep r p → p .input .at < inUnit r → Room r p l m x (length (emitted r p bytes)) → Going r p l x before bytes p before bytes
-  going-start m e s h R = record { inStep = s; begun = h; progress = refl; memory = refl; room = rw e at R; size = refl }
+module _ (r : Rule) (p : Progress) (l : Layout) (c : Cursor) (before bytes : List ℕ) where
+  pub going-start : (m : ℕ) → m ≡ length before → InStep r p → p .input .at < inUnit r → Room r p l c m (length (emitted r p bytes))
+      → Going r p l c before bytes (record { progress = p; cursor = c }) before bytes
+  going-start m e s h R = record {
+    inStep = s;
+    begun = h;
+    progress = refl;
+    storing = record { stands = R .stands; room = R .fits; on = refl; memory = refl; size = refl };
+    placed = rw e at (R .placed);
+    small = R .small;
+  }
 
-  module _ (q : Progress) (mid rest : List ℕ) (g : Going r p l x before bytes q mid rest) where
+  module _ (q : Fed) (mid rest : List ℕ) (g : Going r p l c before bytes q mid rest) where
     -- a part and the rest
     module _ (n : ℕ) where
-      whole-fed : fed r q rest ≡ fed r (fed r q (take n rest)) (drop n rest)
-      whole-fed = ap (fed r q) (sym (take-append-drop n rest)) ∙ fed-append r q (take n rest) (drop n rest)
+      whole-fed : fed r (q .progress) rest ≡ fed r (fed r (q .progress) (take n rest)) (drop n rest)
+      whole-fed = ap (fed r (q .progress)) (sym (take-append-drop n rest)) ∙ fed-append r (q .progress) (take n rest) (drop n rest)
 
-      whole-emitted : emitted r q rest ≡ emitted r q (take n rest) ++ emitted r (fed r q (take n rest)) (drop n rest)
-      whole-emitted = ap (emitted r q) (sym (take-append-drop n rest)) ∙ emitted-append r q (take n rest) (drop n rest)
+      whole-emitted : emitted r (q .progress) rest ≡ emitted r (q .progress) (take n rest) ++ emitted r (fed r (q .progress) (take n rest)) (drop n rest)
+      whole-emitted = ap (emitted r (q .progress)) (sym (take-append-drop n rest)) ∙ emitted-append r (q .progress) (take n rest) (drop n rest)
 
-      whole-length : length (emitted r q rest) ≡ length (emitted r q (take n rest)) + length (emitted r (fed r q (take n rest)) (drop n rest))
-      whole-length = ap length whole-emitted ∙ length-append (emitted r q (take n rest)) (emitted r (fed r q (take n rest)) (drop n rest))
+      pub part-room : Room r (q .progress) l (q .cursor) (length mid) (length (emitted r (q .progress) (take n rest)))
+      part-room = record {
+        placed = g .placed;
+        stands = g .storing .stands;
+        fits = omega (
+          arith,
+          g .storing .room,
+          ap length whole-emitted,
+          length-append (emitted r (q .progress) (take n rest)) (emitted r (fed r (q .progress) (take n rest)) (drop n rest)),
+        );
+        small = g .small;
+      }
 
-      pub part-room : Room r q l (length mid) x (length (emitted r q (take n rest)))
-      part-room = record { placed = g .room .placed; fits = omega (arith, g .room .fits, whole-length); small = g .room .small }
-
-      pub part-asks : 0 < n → n ≤ length rest → OnePart r q n
-          → (OnePart r q (length (take n rest))) × (0 < length (take n rest)) × (Room r q l (length mid) x (length (emitted r q (take n rest))))
+      pub part-asks : 0 < n → n ≤ length rest → OnePart r (q .progress) n
+          → (OnePart r (q .progress) (length (take n rest))) × (0 < length (take n rest)) × (Room r (q .progress) l (q .cursor) (length mid) (length (emitted r (q .progress) (take n rest))))
       part-asks some most o = rw (length-take-le n rest most) (o, some, part-room)
 
-      pub going-turn : (q′ : Progress) (mid′ : List ℕ) → Fed r q l x mid (take n rest) q′ mid′ → Going r p l x before bytes q′ mid′ (drop n rest)
+      pub going-turn : (q′ : Fed) (mid′ : List ℕ) → Feeds r (q .progress) l (q .cursor) mid (take n rest) q′ mid′ → Going r p l c before bytes q′ mid′ (drop n rest)
       going-turn q′ mid′ f =
-          let a = fed-after r q (g .inStep) (g .begun) (take n rest) in
-          let same : length mid′ ≡ length mid = ap length (f .memory) ∙ length-scattered mid (drop (x + written r q) (places l)) (emitted r q (take n rest)) in
-          let w : x + written r (fed r q (take n rest)) ≡ x + written r q + length (emitted r q (take n rest)) = omega (arith, a .2) in
+          let a = fed-after r (q .progress) (g .inStep) (g .begun) (take n rest) in
+          let left : length (ahead l (q′ .cursor)) ≡ length (ahead l (q .cursor)) - length (emitted r (q .progress) (take n rest)) =
+          ap length (f .stored .on) ∙ length-drop (length (emitted r (q .progress) (take n rest))) (ahead l (q .cursor)) in
           record {
             inStep = rw (f .progress) (a .0);
             begun = rw (f .progress) (a .1);
             progress = rw (f .progress) (sym whole-fed) ∙ g .progress;
-            memory =
-                rw (f .progress, f .memory, w)
-                (sym (rw (drop-drop (length (emitted r q (take n rest))) (x + written r q) (places l)) at (scattered-append mid (drop (x + written r q) (places l)) (emitted r q (take n rest)) (emitted r (fed r q (take n rest)) (drop n rest)))))
-                ∙ (ap (scattered mid (drop (x + written r q) (places l))) (sym whole-emitted) ∙ g .memory);
-            room = rw (f .progress, same) (record { placed = g .room .placed; fits = omega (arith, g .room .fits, whole-length, w); small = g .room .small });
-            size = same ∙ g .size;
+            storing =
+                rw (f .progress)
+                (storing-on l c before (emitted r p bytes) (q .cursor) (q′ .cursor) mid mid′ (emitted r (q .progress) (take n rest)) (emitted r (fed r (q .progress) (take n rest)) (drop n rest))
+                (rw whole-emitted at (g .storing)) (f .stored));
+            placed = rw (stored-size (f .stored)) (g .placed);
+            small = rw (f .progress) (omega (arith, a .2, left, g .small, part-room .fits));
           }
 
-    pub going-end : length rest ≡ 0 → Fed r p l x before bytes q mid
+    pub going-end : length rest ≡ 0 → Feeds r p l c before bytes q mid
     unfolding fed emitted
-    going-end e = go rest e (g .progress) (g .memory)
+    going-end e = go rest e (g .progress) (g .storing)
       where
-        go : (ys : List ℕ) → length ys ≡ 0 → fed r q ys ≡ fed r p bytes
-            → scattered mid (drop (x + written r q) (places l)) (emitted r q ys) ≡ scattered before (drop (x + written r p) (places l)) (emitted r p bytes)
-            → Fed r p l x before bytes q mid
-        go [] z a b = record { progress = a; memory = sym (scattered-none mid (drop (x + written r q) (places l))) ∙ b }
+        go : (ys : List ℕ) → length ys ≡ 0 → fed r (q .progress) ys ≡ fed r p bytes → Storing l c before (emitted r p bytes) (q .cursor) mid (emitted r (q .progress) ys)
+            → Feeds r p l c before bytes q mid
+        go [] z a b = record { progress = a; stored = storing-end l c before (emitted r p bytes) (q .cursor) mid [] refl b }
         go (y ∷ ys) z a b = absurd (omega arith)

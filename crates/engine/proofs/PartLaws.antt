@@ -15,10 +15,10 @@ use Rattle.guard.specs.Guards.{stepped, advanced}
 use Rattle.field.specs.declared.Domain.{Domain}
 use Rattle.field.specs.Domains.{signed}
 use Rattle.field.specs.Fields.{bytesOf}
-use Rattle.layout.specs.Moves.{scattered}
 use Rattle.layout.specs.declared.Layout.{Layout}
-use Rattle.layout.specs.Pieces.{places}
-use Rattle.layout.proofs.MoveLaws.{scattered-none}
+use Rattle.layout.specs.declared.walking.Cursor.{Cursor}
+use Rattle.layout.specs.Cursors.{Stands, Stored}
+use Rattle.layout.proofs.CursorLaws.{stored-nothing}
 use Rattle.engine.specs.declared.Rule.{Rule}
 use Rattle.engine.specs.declared.Side.{Side}
 use Rattle.engine.specs.declared.Progress.{Progress}
@@ -215,22 +215,22 @@ countable r p s h =
 
 -- ---- settling
 
-module _ (r : Rule) (p : Progress) (l : Layout) (x : ℕ) (before : List ℕ) where
-  pub settled-partial : (u : ℕ) → u ≡ inUnit r → (p .input .at ≡ u → ⊥) → Settled r p l x before p before
+module _ (r : Rule) (p : Progress) (l : Layout) (c : Cursor) (before : List ℕ) where
+  pub settled-partial : (u : ℕ) → u ≡ inUnit r → (p .input .at ≡ u → ⊥) → Stands l c → Settled r p l c before (record { progress = p; cursor = c }) before
   unfolding settled
-  settled-partial u e n =
+  settled-partial u e n s =
       let w : whole r p ≡ false = ne-eqb (p .input .at) (inUnit r) (λ s. n (s ∙ sym e)) in
-      record { progress = rw w; memory = rw w (sym (scattered-none before (drop (x + written r p) (places l)))) }
+      record { progress = rw w; stored = rw w (stored-nothing l c before s) }
 
-  pub settled-whole : (u : ℕ) → u ≡ inUnit r → p .input .at ≡ u → (q : Progress) (after : List ℕ) → q ≡ nextUnit r p
-      → after ≡ scattered before (drop (x + written r p) (places l)) (fieldDue r p) → Settled r p l x before q after
+  pub settled-whole : (u : ℕ) → u ≡ inUnit r → p .input .at ≡ u → (q : Progress) (d : Cursor) (after : List ℕ) → q ≡ nextUnit r p
+      → Stored l c before (fieldDue r p) d after → Settled r p l c before (record { progress = q; cursor = d }) after
   unfolding settled
-  settled-whole u e n q after eq ea =
+  settled-whole u e n q d after eq s =
       let w : whole r p ≡ true = eq-eqb (p .input .at) (inUnit r) (n ∙ e) in
-      record { progress = rw w eq; memory = rw w ea }
+      record { progress = rw w eq; stored = rw w s }
 
   -- room for what a whole unit places
-  pub room-due : (u memory : ℕ) → u ≡ inUnit r → p .input .at ≡ u → Room r p l memory x (length (placed r p)) → Room r p l memory x (length (fieldDue r p))
+  pub room-due : (u memory : ℕ) → u ≡ inUnit r → p .input .at ≡ u → Room r p l c memory (length (placed r p)) → Room r p l c memory (length (fieldDue r p))
   room-due u memory e n m =
       let w : whole r p ≡ true = eq-eqb (p .input .at) (inUnit r) (n ∙ e) in
       rw w at m

@@ -1,20 +1,22 @@
 -- What the engine's code does with a part of the input stream that ends within its block or within its field.
 use mathlib.Core.Path.{_≡_}
 use mathlib.Core.Bool.{Bool, false, _&&_, cond}
-use mathlib.Core.List.{List}
+use mathlib.Core.List.{List, []}
 use Prim.Native.Nat.{ℕ, _+_, _-_, _*_, _≤_, _<_, _^_, min}
 use lib.Dec.{eqb, ltb}
-use lib.ListN.{length, drop}
+use lib.ListN.{length}
 use lib.Seq.{sets}
 use Rattle.guard.specs.Guards.{advanced}
 use Rattle.field.specs.declared.Domain.{Domain}
 use Rattle.field.specs.Domains.{signed}
 use Rattle.layout.specs.declared.Layout.{Layout}
-use Rattle.layout.specs.Pieces.{total, places}
-use Rattle.layout.specs.Moves.{Placed, scattered}
+use Rattle.layout.specs.declared.walking.Cursor.{Cursor}
+use Rattle.layout.specs.Moves.{Placed}
+use Rattle.layout.specs.Cursors.{ahead, Stands, Stored, Storing}
 use Rattle.engine.specs.declared.Rule.{Rule}
 use Rattle.engine.specs.declared.Side.{Side}
 use Rattle.engine.specs.declared.Progress.{Progress}
+use Rattle.engine.specs.declared.Fed.{Fed}
 use Rattle.engine.specs.Streams.{inBlock, inUnit, outUnit}
 use Rattle.engine.specs.Feeding.{checksGuard, makesGuard, fed, emitted, settled, placed}
 use Rattle.engine.specs.Standing.{Matched}
@@ -41,6 +43,14 @@ fieldTaken r p xs = record {
   slot = p .slot;
 }
 
+-- the progress after a part that is all of one block's data or all of one field
+abbrev pub partTaken : Rule → Progress → List ℕ → Progress
+partTaken r p xs = cond (ltb (p .input .at) (inBlock r)) (dataTaken r p xs) (fieldTaken r p xs)
+
+-- what is placed as it arrives
+abbrev pub partShown : Rule → Progress → List ℕ → List ℕ
+partShown r p xs = cond (ltb (p .input .at) (inBlock r)) xs []
+
 -- how many bytes of the output stream are placed
 abbrev pub written : Rule → Progress → ℕ
 written r p = p .output .index * outUnit r + p .output .at
@@ -62,21 +72,27 @@ unfoldable pub inStep : Rule → Progress → Bool
 inStep r p =
     eqb (p .output .index) (p .input .index) && (eqb (p .output .at) (min (p .input .at) (inBlock r)) && ltb (p .input .at) (inUnit r))
 
--- So many bytes more fit the layout from its byte x on, behind those that are placed.
-pub record Room (r : Rule) (p : Progress) (l : Layout) (memory x more : ℕ) : Type 0 where
+-- So many bytes more fit ahead of the cursor, and all that could be placed can be counted.
+pub record Room (r : Rule) (p : Progress) (l : Layout) (c : Cursor) (memory more : ℕ) : Type 0 where
   pub placed : Placed l memory
-  pub fits : x + written r p + more ≤ total l
-  pub small : total l ≤ 2 ^ 40
+  pub stands : Stands l c
+  pub fits : more ≤ length (ahead l c)
+  pub small : written r p + length (ahead l c) ≤ 2 ^ 40
 
--- What feeding gives: the engine's progress, and its output placed behind what was placed before.
-pub record Fed (r : Rule) (p : Progress) (l : Layout) (x : ℕ) (before bytes : List ℕ) (q : Progress) (after : List ℕ) : Type 0 where
-  pub progress : q ≡ fed r p bytes
-  pub memory : after ≡ scattered before (drop (x + written r p) (places l)) (emitted r p bytes)
+-- What feeding gives: the engine's progress, and its output placed ahead of the cursor.
+pub record Feeds (r : Rule) (p : Progress) (l : Layout) (c : Cursor) (before bytes : List ℕ) (f : Fed) (after : List ℕ) : Type 0 where
+  pub progress : f .progress ≡ fed r p bytes
+  pub stored : Stored l c before (emitted r p bytes) (f .cursor) after
 
 -- The same of settling.
-pub record Settled (r : Rule) (p : Progress) (l : Layout) (x : ℕ) (before : List ℕ) (q : Progress) (after : List ℕ) : Type 0 where
-  pub progress : q ≡ settled r p
-  pub memory : after ≡ scattered before (drop (x + written r p) (places l)) (placed r p)
+pub record Settled (r : Rule) (p : Progress) (l : Layout) (c : Cursor) (before : List ℕ) (f : Fed) (after : List ℕ) : Type 0 where
+  pub progress : f .progress ≡ settled r p
+  pub stored : Stored l c before (placed r p) (f .cursor) after
+
+-- The same of a part that arrives.
+pub record Arrives (r : Rule) (p : Progress) (l : Layout) (c : Cursor) (before part : List ℕ) (f : Fed) (after : List ℕ) : Type 0 where
+  pub progress : f .progress ≡ partTaken r p part
+  pub stored : Stored l c before (partShown r p part) (f .cursor) after
 
 -- A part of the field that fits what is held.
 pub record Holds (r : Rule) (p : Progress) (more : ℕ) : Type 0 where
@@ -97,13 +113,13 @@ pub record OnePart (r : Rule) (p : Progress) (n : ℕ) : Type 0 where
   pub unit : p .input .at + n ≤ inUnit r
 
 -- On the way: feeding what is left gives what feeding all bytes gives.
-pub record Going (r : Rule) (p : Progress) (l : Layout) (x : ℕ) (before bytes : List ℕ) (q : Progress) (mid rest : List ℕ) : Type 0 where
-  pub inStep : InStep r q
-  pub begun : q .input .at < inUnit r
-  pub progress : fed r q rest ≡ fed r p bytes
-  pub memory : scattered mid (drop (x + written r q) (places l)) (emitted r q rest) ≡ scattered before (drop (x + written r p) (places l)) (emitted r p bytes)
-  pub room : Room r q l (length mid) x (length (emitted r q rest))
-  pub size : length mid ≡ length before
+pub record Going (r : Rule) (p : Progress) (l : Layout) (c : Cursor) (before bytes : List ℕ) (q : Fed) (mid rest : List ℕ) : Type 0 where
+  pub inStep : InStep r (q .progress)
+  pub begun : q .progress .input .at < inUnit r
+  pub progress : fed r (q .progress) rest ≡ fed r p bytes
+  pub storing : Storing l c before (emitted r p bytes) (q .cursor) mid (emitted r (q .progress) rest)
+  pub placed : Placed l (length mid)
+  pub small : written r (q .progress) + length (ahead l (q .cursor)) ≤ 2 ^ 40
 
 -- Neither side is signed.
 pub record Bare (r : Rule) : Type 0 where

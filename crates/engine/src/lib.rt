@@ -8,6 +8,7 @@ mod whole;
 use field::Domain;
 use guard::Running;
 use key::Slot;
+use layout::Cursor;
 pub use sides::taken;
 pub use sides::written;
 pub use stream::feed;
@@ -34,6 +35,12 @@ pub struct Progress {
     pub output: Side,
     pub held: [u8; 8],
     pub slot: Slot,
+}
+
+// What feeding answers: how far the transfer is, and where its next output byte goes.
+pub struct Fed {
+    pub progress: Progress,
+    pub cursor: Cursor,
 }
 
 ghost use mathlib.Core.Path.{_≡_};

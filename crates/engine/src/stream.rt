@@ -5,17 +5,17 @@ ghost use lib.ListN.{length};
 ghost use Rattle.engine.specs.Streams.{inUnit};
 ghost use Rattle.engine.specs.Feeding.{emitted};
 ghost use Rattle.engine.specs.Parts as parts;
-ghost use Rattle.engine.specs.Parts.{OnePart, Bare, InStep, Room, Fed};
+ghost use Rattle.engine.specs.Parts.{OnePart, Bare, InStep, Room, Arrives, Feeds};
+use crate::Fed;
 use crate::Progress;
 use crate::Rule;
 use crate::parts;
 use crate::sides;
 use crate::sides::block_size;
 use crate::sides::unit_size;
-use crate::sides::written;
 use crate::whole;
+use layout::Cursor;
 use layout::Layout;
-use layout::LayoutOffset;
 
 // Whether a progress of any making stands in step. Each that feeding gives does.
 pub fn in_step(rule: Rule, p: Progress) -> bool
@@ -52,99 +52,90 @@ fn lesser(a: u64, b: usize) -> usize
     if n < b { n } else { b }
 }
 
-// Feeds a part that is all of one block's data or all of one field: data is placed at once, a field held, and a whole
-// unit settled.
-fn feed_part(
-    rule: Rule,
-    p: Progress,
-    l: Layout,
-    memory: &mut [u8],
-    start: LayoutOffset,
-    part: &[u8],
-) -> Progress
+// A part that is all of one block's data or all of one field: data is placed at once, a field held.
+fn arrive(rule: Rule, p: Progress, l: Layout, memory: &mut [u8], c: Cursor, part: &[u8]) -> Fed
     requires { ⌜ InStep rule p ⌝ }
-    requires { ⌜ (OnePart rule p (length (now part))) × (0 < length (now part)) × (Room rule p l (length (now memory)) (start .0) (length (emitted rule p (now part)))) ⌝ }
-    ensures { λ r. ⌜ Fed rule p l (start .0) (now (memory .entry)) (now (part .entry)) r (now (memory .exit)) ⌝ }
+    requires { ⌜ (OnePart rule p (length (now part))) × (0 < length (now part)) × (Room rule p l c (length (now memory)) (length (emitted rule p (now part)))) ⌝ }
+    ensures { λ r. ⌜ Arrives rule p l c (now (memory .entry)) (now (part .entry)) r (now (memory .exit)) ⌝ }
 {
     let at = p.input.at;
     if at < block_size(rule.input, rule.output) {
-        layout::scatter(l, memory, start.ahead(written(rule, p)), part);
-        return whole::settle(rule, parts::take_data(rule, p, part), l, memory, start);
+        let cursor = layout::scatter(l, memory, c, part);
+        return Fed {
+            progress: parts::take_data(rule, p, part),
+            cursor,
+        };
     }
-    whole::settle(rule, parts::take_field(rule, p, part), l, memory, start)
+    Fed {
+        progress: parts::take_field(rule, p, part),
+        cursor: c,
+    }
+}
+
+// Feeds such a part. A unit that it makes whole is settled.
+fn feed_part(rule: Rule, p: Progress, l: Layout, memory: &mut [u8], c: Cursor, part: &[u8]) -> Fed
+    requires { ⌜ InStep rule p ⌝ }
+    requires { ⌜ (OnePart rule p (length (now part))) × (0 < length (now part)) × (Room rule p l c (length (now memory)) (length (emitted rule p (now part)))) ⌝ }
+    ensures { λ r. ⌜ Feeds rule p l c (now (memory .entry)) (now (part .entry)) r (now (memory .exit)) ⌝ }
+{
+    let a = arrive(rule, p, l, memory, c, part);
+    whole::settle(rule, a.progress, l, memory, a.cursor)
 }
 
 // Feeds bytes part by part.
-fn feed_parts(
-    rule: Rule,
-    p: Progress,
-    l: Layout,
-    memory: &mut [u8],
-    start: LayoutOffset,
-    bytes: &[u8],
-) -> Progress
+fn feed_parts(rule: Rule, p: Progress, l: Layout, memory: &mut [u8], c: Cursor, bytes: &[u8]) -> Fed
     requires { ⌜ (InStep rule p) × (p .input .at < inUnit rule) ⌝ }
-    requires { ⌜ Room rule p l (length (now memory)) (start .0) (length (emitted rule p (now bytes))) ⌝ }
-    ensures { λ r. ⌜ Fed rule p l (start .0) (now (memory .entry)) (now (bytes .entry)) r (now (memory .exit)) ⌝ }
+    requires { ⌜ Room rule p l c (length (now memory)) (length (emitted rule p (now bytes))) ⌝ }
+    ensures { λ r. ⌜ Feeds rule p l c (now (memory .entry)) (now (bytes .entry)) r (now (memory .exit)) ⌝ }
 {
-    let mut q = p;
+    let mut q = Fed {
+        progress: p,
+        cursor: c,
+    };
     let mut rest = bytes;
     while 0 < rest.len() {
-        let n = part_length(rule, q, rest.len());
-        q = feed_part(rule, q, l, memory, start, &rest[0..n]);
+        let n = part_length(rule, q.progress, rest.len());
+        q = feed_part(rule, q.progress, l, memory, q.cursor, &rest[0..n]);
         rest = &rest[n..];
     }
     q
 }
 
 // Feeds bytes where neither side is signed: each byte is a unit, and all go at once.
-fn feed_bare(
-    rule: Rule,
-    p: Progress,
-    l: Layout,
-    memory: &mut [u8],
-    start: LayoutOffset,
-    bytes: &[u8],
-) -> Progress
+fn feed_bare(rule: Rule, p: Progress, l: Layout, memory: &mut [u8], c: Cursor, bytes: &[u8]) -> Fed
     requires { ⌜ (InStep rule p) × (p .input .at < inUnit rule) × (Bare rule) ⌝ }
-    requires { ⌜ Room rule p l (length (now memory)) (start .0) (length (emitted rule p (now bytes))) ⌝ }
-    ensures { λ r. ⌜ Fed rule p l (start .0) (now (memory .entry)) (now (bytes .entry)) r (now (memory .exit)) ⌝ }
+    requires { ⌜ Room rule p l c (length (now memory)) (length (emitted rule p (now bytes))) ⌝ }
+    ensures { λ r. ⌜ Feeds rule p l c (now (memory .entry)) (now (bytes .entry)) r (now (memory .exit)) ⌝ }
 {
     if bytes.len() == 0 {
-        return p;
+        return Fed {
+            progress: p,
+            cursor: c,
+        };
     }
-    layout::scatter(l, memory, start.ahead(written(rule, p)), bytes);
+    let cursor = layout::scatter(l, memory, c, bytes);
     let held = p.held;
     let slot = p.slot;
     let input = sides::at_block(rule.input, p.input.index + bytes.len() as u64);
     let output = sides::at_block(rule.output, p.output.index + bytes.len() as u64);
-    Progress {
+    let progress = Progress {
         input,
         output,
         held,
         slot,
-    }
+    };
+    Fed { progress, cursor }
 }
 
-// Feeds bytes of the input stream, which may end anywhere, and places what becomes known of the output stream from
-// layout byte start on.
-pub fn feed(
-    rule: Rule,
-    p: Progress,
-    l: Layout,
-    memory: &mut [u8],
-    start: LayoutOffset,
-    bytes: &[u8],
-) -> Progress
+// Feeds bytes of the input stream, which may end anywhere, and places what becomes known of the output stream from the
+// cursor on.
+pub fn feed(rule: Rule, p: Progress, l: Layout, memory: &mut [u8], c: Cursor, bytes: &[u8]) -> Fed
     requires { ⌜ (InStep rule p) × (p .input .at < inUnit rule) ⌝ }
-    requires { ⌜ Room rule p l (length (now memory)) (start .0) (length (emitted rule p (now bytes))) ⌝ }
-    ensures { λ r. ⌜ Fed rule p l (start .0) (now (memory .entry)) (now (bytes .entry)) r (now (memory .exit)) ⌝ }
+    requires { ⌜ Room rule p l c (length (now memory)) (length (emitted rule p (now bytes))) ⌝ }
+    ensures { λ r. ⌜ Feeds rule p l c (now (memory .entry)) (now (bytes .entry)) r (now (memory .exit)) ⌝ }
 {
-    if field::signed(rule.input) {
-        return feed_parts(rule, p, l, memory, start, bytes);
+    if field::signed(rule.input) | field::signed(rule.output) {
+        return feed_parts(rule, p, l, memory, c, bytes);
     }
-    if field::signed(rule.output) {
-        return feed_parts(rule, p, l, memory, start, bytes);
-    }
-    feed_bare(rule, p, l, memory, start, bytes)
+    feed_bare(rule, p, l, memory, c, bytes)
 }

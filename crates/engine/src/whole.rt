@@ -1,24 +1,21 @@
 // A whole unit: its error, its output field, and the next.
 ghost use mathlib.Core.Path.{_≡_};
-ghost use Prim.Native.Nat.{_+_};
-ghost use lib.ListN.{length, drop};
-ghost use Rattle.layout.specs.Pieces.{places};
-ghost use Rattle.layout.specs.Moves.{scattered};
+ghost use lib.ListN.{length};
+ghost use Rattle.layout.specs.Cursors.{Stored};
 ghost use Rattle.engine.specs.Transfers.{slotOf};
 ghost use Rattle.engine.specs.Feeding.{fieldMade, fieldDue, nextUnit, placed};
 ghost use Rattle.engine.specs.Feeding as feeding;
 ghost use Rattle.engine.specs.Parts.{Countable, InStep, Room, Settled};
-ghost use Rattle.engine.specs.Parts as parts;
+use crate::Fed;
 use crate::Progress;
 use crate::Rule;
 use crate::sides;
 use crate::sides::unit_size;
-use crate::sides::written;
 use field::Judgement;
 use key::Error;
 use key::Slot;
+use layout::Cursor;
 use layout::Layout;
-use layout::LayoutOffset;
 
 // The output field of the unit under way, byte by byte copied from what is held or generated.
 fn field_made(rule: Rule, p: Progress) -> [u8; 8]
@@ -90,33 +87,33 @@ fn next(rule: Rule, p: Progress) -> Progress
 }
 
 // Places the output field of the unit under way, where the output has one.
-fn place(rule: Rule, p: Progress, l: Layout, memory: &mut [u8], start: LayoutOffset)
-    requires { ⌜ Room rule p l (length (now memory)) (start .0) (length (fieldDue rule p)) ⌝ }
-    ensures { λ _. ⌜ now (memory .exit) ≡ scattered (now (memory .entry)) (drop (start .0 + parts.written rule p) (places l)) (fieldDue rule p) ⌝ }
+fn place(rule: Rule, p: Progress, l: Layout, memory: &mut [u8], c: Cursor) -> Cursor
+    requires { ⌜ Room rule p l c (length (now memory)) (length (fieldDue rule p)) ⌝ }
+    ensures { λ r. ⌜ Stored l c (now (memory .entry)) (fieldDue rule p) r (now (memory .exit)) ⌝ }
 {
     if field::signed(rule.output) {
         let bytes = field_made(rule, p);
-        let at = start.ahead(written(rule, p));
-        layout::scatter(l, memory, at, &bytes);
+        return layout::scatter(l, memory, c, &bytes);
     }
+    c
 }
 
 // A whole unit is judged, its output field placed, and the next begun.
-pub(crate) fn settle(
-    rule: Rule,
-    p: Progress,
-    l: Layout,
-    memory: &mut [u8],
-    start: LayoutOffset,
-) -> Progress
+pub(crate) fn settle(rule: Rule, p: Progress, l: Layout, memory: &mut [u8], c: Cursor) -> Fed
     requires { ⌜ InStep rule p ⌝ }
-    requires { ⌜ Room rule p l (length (now memory)) (start .0) (length (placed rule p)) ⌝ }
-    ensures { λ r. ⌜ Settled rule p l (start .0) (now (memory .entry)) r (now (memory .exit)) ⌝ }
+    requires { ⌜ Room rule p l c (length (now memory)) (length (placed rule p)) ⌝ }
+    ensures { λ r. ⌜ Settled rule p l c (now (memory .entry)) r (now (memory .exit)) ⌝ }
 {
     let input = p.input;
     if input.at != unit_size(rule.input, rule.output) {
-        return p;
+        return Fed {
+            progress: p,
+            cursor: c,
+        };
     }
-    place(rule, p, l, memory, start);
-    next(rule, p)
+    let cursor = place(rule, p, l, memory, c);
+    Fed {
+        progress: next(rule, p),
+        cursor,
+    }
 }

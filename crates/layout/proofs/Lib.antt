@@ -3,3 +3,4 @@ pub mod PieceLaws
 pub mod MoveLaws
 pub mod AnswerLaws
 pub mod CountLaws
+pub mod CursorLaws

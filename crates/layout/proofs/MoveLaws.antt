@@ -9,13 +9,8 @@ use borrow.Rule.Slice.PartAt.{part-to-end}
 use borrow.Rule.Slice.PartMut.{putMid, post-is}
 use lib.ListN.{length, take-append-drop, take, drop, getD, set, length-append, length-take, length-drop, length-set, length-map}
 use lib.Seq.{take-at, take-suc, take-suc-set, length-take-le, drop-cons, drop-drop, take-add, take-all, getD-set-same, getD-set-other, getD-take, getD-drop, ext-getD, sets, sets-eq}
-use Rattle.layout.specs.declared.Layout.{Layout}
-use Rattle.layout.specs.declared.places.Spot.{Spot}
-use Rattle.layout.specs.declared.places.Position.{Position}
-use Rattle.layout.specs.Pieces.{Piece, inUse, size, span, from, placesOf, places}
-use Rattle.layout.specs.Moves.{gathered, scattered, spot, Distinct, Below}
-use Rattle.layout.specs.Steps.{byteAt, Cut}
-use Rattle.layout.proofs.PieceLaws.{run-places}
+use Rattle.layout.specs.Pieces.{from}
+use Rattle.layout.specs.Moves.{gathered, scattered, Distinct, Below}
 
 -- ---- the copying loop
 
@@ -54,16 +49,6 @@ unfolding gathered from
 gathered-from m a zero h = refl
 gathered-from m a (suc n) h =
     rw (drop-cons m a 0 (omega arith)) (ap (λ (l : List ℕ). getD m a 0 ∷ l) (gathered-from m (suc a) n (omega arith)))
-
--- the run at layout byte x, and its first k bytes, are a part of memory
-pub gathered-run :
-    (m : List ℕ) (ps : List Piece) (x k : ℕ) (s : Spot)
-    → s ≡ spot ps x
-    → x < size ps
-    → k ≤ s .left
-    → s .place .0 + k ≤ length m
-    → gathered m (take k (drop x (placesOf ps))) ≡ take k (drop (s .place .0) m)
-gathered-run m ps x k s e h hk w = ap (λ (l : List ℕ). gathered m l) (run-places ps x k s e h hk) ∙ gathered-from m (s .place .0) k w
 
 -- ---- scattered
 
@@ -108,25 +93,24 @@ scattered-from m (b ∷ bs) a (suc n) h = scattered-from (set m a b) bs (suc a) 
 
 -- k bytes that lie one after the other stored at once: they replace a part of memory, and the rest is stored behind them
 pub scattered-run :
-    (m ps bs : List ℕ) (x a k : ℕ)
-    → take k (drop x ps) ≡ from a k
+    (m ps bs : List ℕ) (a k : ℕ)
+    → take k ps ≡ from a k
     → k ≤ length bs
     → a + k ≤ length m
-    → scattered m (drop x ps) bs ≡ scattered (take a m ++ (take k bs ++ drop (a + k) m)) (drop (x + k) ps) (drop k bs)
-scattered-run m ps bs x a k e hb w =
+    → scattered m ps bs ≡ scattered (take a m ++ (take k bs ++ drop (a + k) m)) (drop k ps) (drop k bs)
+scattered-run m ps bs a k e hb w =
     let len : length (take k bs) ≡ k = length-take-le k bs hb in
-    let first : scattered m (drop x ps) (take k bs) ≡ take a m ++ (take k bs ++ drop (a + k) m) =
-    sym (scattered-take m (drop x ps) (take k bs) k (omega arith))
+    let first : scattered m ps (take k bs) ≡ take a m ++ (take k bs ++ drop (a + k) m) =
+    sym (scattered-take m ps (take k bs) k (omega arith))
     ∙ ap (λ (l : List ℕ). scattered m l (take k bs)) e
     ∙ scattered-from m (take k bs) a k (omega arith)
     ∙ sets-eq (take k bs) m a (omega arith)
     ∙ ap (λ (n : ℕ). take a m ++ take k bs ++ drop (a + n) m) len
     ∙ append-assoc (take a m) (take k bs) (drop (a + k) m) in
-    ap (λ (l : List ℕ). scattered m (drop x ps) l) (sym (take-append-drop k bs))
-    ∙ scattered-append m (drop x ps) (take k bs) (drop k bs)
-    ∙ ap (λ (n : ℕ). scattered (scattered m (drop x ps) (take k bs)) (drop n (drop x ps)) (drop k bs)) len
-    ∙ ap (λ (l : List ℕ). scattered l (drop k (drop x ps)) (drop k bs)) first
-    ∙ ap (λ (l : List ℕ). scattered (take a m ++ (take k bs ++ drop (a + k) m)) l (drop k bs)) (drop-drop k x ps)
+    ap (λ (l : List ℕ). scattered m ps l) (sym (take-append-drop k bs))
+    ∙ scattered-append m ps (take k bs) (drop k bs)
+    ∙ ap (λ (n : ℕ). scattered (scattered m ps (take k bs)) (drop n ps) (drop k bs)) len
+    ∙ ap (λ (l : List ℕ). scattered l (drop k ps) (drop k bs)) first
 
 -- a place that none of the bytes goes to keeps its byte
 pub scattered-other :
@@ -191,62 +175,6 @@ pub below-take : (n k : ℕ) (ps : List ℕ) → Below n ps → Below n (take k 
 below-take n k ps w i h =
     let len = length-take k ps in
     omega (arith, w i (omega arith), getD-take k ps i 0 (omega arith))
-
--- ---- a turn of each loop, from what its calls ensure, in the lists that the code leaves
-
--- a position moved ahead stands so many layout bytes further on
-pub moved : (l : Layout) (p q : Position) (s k : ℕ) → s ≡ span (inUse l) → q .repeat * s + q .byte ≡ p .repeat * s + p .byte + k → byteAt l q ≡ byteAt l p + k
-moved l p q s k e h = rw e at h
-
--- what is left of the bytes behind the first k
-pub rest-length : (bs : List ℕ) (k : ℕ) → length (take (length bs - k) (drop k bs)) ≡ length bs - k
-rest-length bs k = rw part-to-end (length-drop k bs)
-
--- a turn of scatter: its first bytes were copied to the run
-pub scatter-turn :
-    (l : Layout) (p q : Position) (m bs ys : List ℕ) (r : Spot)
-    → Cut l p (length bs) r
-    → r .place .0 + r .left ≤ length m
-    → byteAt l q ≡ byteAt l p + r .left
-    → ys ≡ take (r .left - 0) bs
-    → scattered (putMid (r .place .0) (r .place .0 + r .left - r .place .0) m ys) (drop (byteAt l q) (places l)) (take (length bs - r .left) (drop (r .left) bs))
-    ≡ scattered m (drop (byteAt l p) (places l)) bs
-scatter-turn l p q m bs ys r c w e f =
-    rw (post-is (r .place .0) (r .place .0 + r .left) m (omega arith), part-to-end bs (r .left), e, f, sub-zero)
-    (sym (scattered-run m (places l) bs (byteAt l p) (r .place .0) (r .left) (c .run) (c .most) w))
-
--- a turn of gather: the run was copied behind the bytes so far
-pub gather-turn :
-    (l : Layout) (p p₀ : Position) (m out ys : List ℕ) (d wanted : ℕ) (r : Spot)
-    → Cut l p wanted r
-    → r .place .0 + r .left ≤ length m
-    → d + r .left ≤ length out
-    → byteAt l p ≡ byteAt l p₀ + d
-    → ys ≡ take (r .place .0 + r .left - r .place .0) (drop (r .place .0) m)
-    → take d out ≡ gathered m (take d (drop (byteAt l p₀) (places l)))
-    → take (d + r .left) (putMid d (d + r .left - d) out ys) ≡ gathered m (take (d + r .left) (drop (byteAt l p₀) (places l)))
-gather-turn l p p₀ m out ys d wanted r c w h e f g =
-    let k = r .left in
-    let a = r .place .0 in
-    let x = byteAt l p₀ in
-    let n : a + k - a ≡ k = omega arith in
-    let more : ys ≡ gathered m (take k (drop d (drop x (places l)))) =
-    f ∙ ap (λ (i : ℕ). take i (drop a m)) n ∙ sym (gathered-from m a k w) ∙ ap (λ (l : List ℕ). gathered m l) (sym (c .run))
-    ∙ ap (λ (i : ℕ). gathered m (take k (drop i (places l)))) e ∙ ap (λ (z : List ℕ). gathered m (take k z)) (sym (drop-drop d x (places l))) in
-    let len : length (take d out ++ ys) ≡ d + k =
-    length-append (take d out) ys ∙ rw (f, n) (simp (length-take, length-drop) (omega arith)) in
-    ap (λ (z : List ℕ). take (d + k) z) (sym (append-assoc (take d out) ys (drop (d + k - d) (drop d out))))
-    ∙ take-at (take d out ++ ys) (drop (d + k - d) (drop d out)) (d + k) len
-    ∙ ap (λ (z : List ℕ). z ++ ys) g
-    ∙ ap (λ (z : List ℕ). gathered m (take d (drop x (places l))) ++ z) more
-    ∙ sym (gathered-append m (take d (drop x (places l))) (take k (drop d (drop x (places l)))))
-    ∙ ap (λ (z : List ℕ). gathered m z) (sym (take-add d k (drop x (places l))))
-
--- where no byte is asked for
-pub gathered-none : (m ps out : List ℕ) → length out ≡ 0 → out ≡ gathered m (take (length out) ps)
-unfolding gathered
-gathered-none m ps [] h = refl
-gathered-none m ps (b ∷ out) h = absurd (omega arith)
 
 pub stored-none : (m ps bs : List ℕ) → length bs ≡ 0 → m ≡ scattered m ps bs
 stored-none m ps [] h = sym (scattered-none m ps)

@@ -1,12 +1,9 @@
--- Bytes between a slice and the places of a layout, and the walk that finds those places.
+-- Bytes between a slice and the places of a layout.
 use mathlib.Core.Path.{_≡_}
-use mathlib.Core.Bool.{cond}
 use mathlib.Core.List.{List, [], _∷_, map}
-use Prim.Native.Nat.{ℕ, _+_, _-_, _≤_, _<_}
-use lib.Dec.{ltb}
+use Prim.Native.Nat.{ℕ, _≤_, _<_}
 use lib.ListN.{length, getD, set}
 use Rattle.layout.specs.declared.Layout.{Layout}
-use Rattle.layout.specs.declared.places.Spot.{Spot}
 use Rattle.layout.specs.Pieces.{Piece, end, pieces}
 
 -- the bytes that stand at these places
@@ -19,21 +16,12 @@ scattered memory [] bytes = memory
 scattered memory (p ∷ ps) [] = memory
 scattered memory (p ∷ ps) (b ∷ bytes) = scattered (set memory p b) ps bytes
 
--- where byte x of a piece lies: its memory place, and how many bytes of the piece lie there and on
-abbrev pub inPiece : Piece → ℕ → Spot
-inPiece p x = record { place = record { 0 = p .start + x }; left = p .count - x }
-
--- where byte x of the pieces lies; past the last byte none is left
-unfoldable pub spot : List Piece → ℕ → Spot
-spot [] x = record { place = record { 0 = 0 }; left = 0 }
-spot (p ∷ ps) x = cond (ltb x (p .count)) (inPiece p x) (spot ps (x - p .count))
-
 -- Every piece ends within n bytes of memory.
 unfoldable pub Within : ℕ → List Piece → Type 0
 Within n [] = Unit {0}
 Within n (p ∷ ps) = (end p ≤ n) × Within n ps
 
--- What the walk, gather and scatter ask of a layout over a memory of n bytes: that its pieces lie inside. They may overlap.
+-- What the walk and scatter ask of a layout over a memory of n bytes: that its pieces lie inside. They may overlap.
 pub record Placed (l : Layout) (n : ℕ) : Type 0 where
   pub used : l .used ≤ 16
   pub within : Within n (pieces l)

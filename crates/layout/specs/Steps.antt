@@ -1,39 +1,12 @@
 -- What the inner functions ask and give.
 use mathlib.Core.Path.{_≡_}
-use mathlib.Core.List.{map}
-use Prim.Native.Nat.{ℕ, _+_, _*_, _-_, _^_, _≤_, _<_}
-use lib.ListN.{length, take, drop, getD}
+use Prim.Native.Nat.{ℕ, _*_, _≤_, _<_}
+use lib.ListN.{length, getD}
 use Rattle.layout.specs.declared.Entry.{Entry}
 use Rattle.layout.specs.declared.Layout.{Layout}
-use Rattle.layout.specs.declared.places.Spot.{Spot}
-use Rattle.layout.specs.declared.places.Position.{Position}
 use Rattle.layout.specs.declared.answer.Extent.{Extent}
-use Rattle.layout.specs.Pieces.{Piece, end, piece, pieces, inUse, span, total, from, places}
-use Rattle.layout.specs.Moves.{Within, Placed}
-
--- The pieces of repeat r end within n bytes.
-pub record Reached (l : Layout) (r n : ℕ) : Type 0 where
-  pub used : l .used ≤ 16
-  pub within : Within n (map (piece r) (inUse l))
-
--- the layout byte at a position
-abbrev pub byteAt : Layout → Position → ℕ
-byteAt l p = p .repeat * span (inUse l) + p .byte
-
--- The position is that of a layout byte.
-pub record Stands (l : Layout) (p : Position) : Type 0 where
-  pub placed : Placed l (2 ^ 64 - 1)
-  pub byte : p .byte < span (inUse l)
-  pub below : byteAt l p < total l
-
--- The layout bytes at a position and on, at most as many as wanted, that lie in memory one after the other.
-pub record Cut (l : Layout) (p : Position) (wanted : ℕ) (r : Spot) : Type 0 where
-  pub some : 0 < r .left
-  pub most : r .left ≤ wanted
-  pub fits : p .byte + r .left ≤ span (inUse l)
-  pub repeat : p .repeat < 2 ^ 32
-  pub inside : (n : ℕ) → Placed l n → r .place .0 + r .left ≤ n
-  pub run : take (r .left) (drop (byteAt l p) (places l)) ≡ from (r .place .0) (r .left)
+use Rattle.layout.specs.Pieces.{Piece, end, pieces, inUse, total}
+use Rattle.layout.specs.Moves.{Placed}
 
 -- what stands past the last entry
 abbrev pub none : Entry

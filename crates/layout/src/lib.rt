@@ -4,18 +4,20 @@ mod moves;
 mod numbers;
 mod offset;
 mod places;
+mod walking;
 
 pub use answer::Verdict;
 pub use answer::fits;
 pub use answer::judge;
-pub use moves::gather;
 pub use moves::scatter;
 pub use offset::LayoutOffset;
 pub use offset::MemoryOffset;
-pub use places::Spot;
-pub use places::run;
 pub use places::total;
-pub use places::walk;
+pub use walking::Cursor;
+pub use walking::forward;
+pub use walking::ready;
+pub use walking::run;
+pub use walking::walk;
 
 // count bytes from start on; the next repeat begins skip bytes behind them. Entries and layouts cross the border to C as
 // they stand.

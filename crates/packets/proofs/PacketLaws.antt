@@ -10,6 +10,10 @@ use lib.ListN.{length, length-append}
 use borrow.Author.Tests.{eq-eqb, ne-eqb, lt-ltb, le-ltb, le-leb, lt-leb, eqb-true, ltb-true, ltb-false, leb-true}
 use Rattle.guard.specs.Guards.{Bytes}
 use Rattle.layout.specs.declared.offset.LayoutOffset.{LayoutOffset}
+use Rattle.layout.specs.declared.walking.Cursor.{Cursor}
+use Rattle.layout.specs.Pieces.{total}
+use Rattle.layout.specs.Moves.{Placed}
+use Rattle.layout.specs.Cursors.{Walked}
 use Rattle.key.specs.declared.Key.{Key}
 use Rattle.key.specs.declared.Outcome.{Outcome}
 use Rattle.key.specs.declared.Outcome.the-variants.{Done, Refused}
@@ -25,11 +29,12 @@ use Rattle.engine.specs.declared.Rule.{Rule}
 use Rattle.engine.specs.declared.Progress.{Progress}
 use Rattle.engine.specs.Streams.{inBlock, inUnit}
 use Rattle.engine.specs.Feeding.{begun, fed, emitted}
-use Rattle.engine.specs.Parts.{InStep, inStep, Room, Fed, taken, written}
+use Rattle.engine.specs.declared.Fed.{Fed}
+use Rattle.engine.specs.Parts.{InStep, inStep, Room, Feeds, taken, written}
 use Rattle.engine.proofs.Arriving.{field-small}
 use Rattle.engine.proofs.Feeding.{fed-append}
-use Rattle.engine.proofs.FeedLaws.{begun-in-step, fed-after, fed-taken, written-within}
-use Rattle.transfer.proofs.Laws.{Ready, ready}
+use Rattle.engine.proofs.FeedLaws.{room-at, begun-in-step, fed-after, fed-taken, written-within}
+use Rattle.transfer.proofs.Laws.{Ready, ready, walkable}
 use Rattle.transfer.proofs.SendLaws.{stream-double}
 use Rattle.packets.specs.declared.Session.{Session}
 use Rattle.packets.specs.declared.Packed.{Packed}
@@ -119,9 +124,18 @@ module _ (s : Session) (u : Underway s) where
     pub packet-written : written (ruleOf s) (fed (ruleOf s) (s .progress) bytes) ≤ 2 ^ 40
     packet-written = omega (arith, written-fits, told .inside, told .bounded .small)
 
-    pub packet-room : (memory : ℕ) → memory ≡ s .key .«memory_length»
-        → Room (ruleOf s) (s .progress) (s .key .layout) memory (s .start .0) (length (emitted (ruleOf s) (s .progress) bytes))
-    packet-room memory e = record { placed = rw e (told .placed); fits = omega (arith, after .2, written-fits, told .inside); small = omega (arith, told .bounded .small) }
+    -- the next output byte goes to a place in the layout, or to its end
+    pub packet-at : (written (ruleOf s) (s .progress) ≤ 2 ^ 40) × (s .start .0 + written (ruleOf s) (s .progress) < 2 ^ 64) × (Placed (s .key .layout) (2 ^ 64 - 1))
+        × (s .start .0 + written (ruleOf s) (s .progress) ≤ total (s .key .layout))
+    packet-at =
+        let w : s .start .0 + written (ruleOf s) (s .progress) ≤ total (s .key .layout) = omega (arith, after .2, written-fits, told .inside) in
+        (omega (arith, told .bounded .small), omega (arith, told .bounded .small), walkable told .0, w)
+
+    pub packet-room : (memory : ℕ) → memory ≡ s .key .«memory_length» → (at : Cursor) → Walked (s .key .layout) (s .start .0 + written (ruleOf s) (s .progress)) at
+        → Room (ruleOf s) (s .progress) (s .key .layout) at memory (length (emitted (ruleOf s) (s .progress) bytes))
+    packet-room memory e at w =
+        room-at (ruleOf s) (s .progress) (s .key .layout) (s .start .0 + written (ruleOf s) (s .progress)) at memory _ (rw e (told .placed)) w (omega arith)
+        (omega (arith, after .2, written-fits, told .inside)) (omega (arith, told .bounded .small))
 
 -- ---- a session of any making
 
@@ -235,13 +249,13 @@ module _ (s : Session) (memory bytes : List ℕ) where
   unfolding packing memoryPacked
   packet-refused o r a e = rw (← a, e) (refl, refl)
 
-  pub packet-done : packetAnswer s (length memory) (length bytes) ≡ Done → (q : Progress) (after : List ℕ)
-      → Fed (ruleOf s) (s .progress) (s .key .layout) (s .start .0) memory bytes q after
-      → (_≡_ {A = Packed} (record { outcome = Done; taken = taken (ruleOf s) q; written = written (ruleOf s) q; session = further s q }) (packing s (length memory) bytes)
+  pub packet-done : packetAnswer s (length memory) (length bytes) ≡ Done → (at : Cursor) → Walked (s .key .layout) (s .start .0 + written (ruleOf s) (s .progress)) at
+      → (f : Fed) (after : List ℕ) → Feeds (ruleOf s) (s .progress) (s .key .layout) at memory bytes f after
+      → (_≡_ {A = Packed} (record { outcome = Done; taken = taken (ruleOf s) (f .progress); written = written (ruleOf s) (f .progress); session = further s (f .progress) }) (packing s (length memory) bytes)
       × (after ≡ memoryPacked s memory bytes)
       )
   unfolding packing memoryPacked
-  packet-done e q after f = rw (e, f .progress) (refl, f .memory)
+  packet-done e at w f after g = rw (e, g .progress) (refl, g .stored .memory ∙ rw (w .on))
 
 -- ---- "came from these calls" is kept
 

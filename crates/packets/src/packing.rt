@@ -60,8 +60,11 @@ pub fn packet(session: Session, memory: &mut [u8], bytes: &[u8]) -> Packed
     };
     let key = session.key;
     let start = session.start;
+    let before = session.progress;
     let rule = transfer::receive_rule(key.signature);
-    let progress = engine::feed(rule, session.progress, key.layout, memory, start, bytes);
+    let at = layout::walk(key.layout, start.ahead(engine::written(rule, before)));
+    let fed = engine::feed(rule, before, key.layout, memory, at, bytes);
+    let progress = fed.progress;
     let next = Session {
         key,
         start,

@@ -2,12 +2,17 @@
 use mathlib.Core.Path.{_≡_, refl, sym, ap, _∙_}
 use mathlib.Core.Bool.{Bool, true, false}
 use mathlib.Core.List.{List}
-use Prim.Native.Nat.{ℕ, _+_, _-_, _*_, _/_, _%_, _≤_, _<_}
+use Prim.Native.Nat.{ℕ, _+_, _-_, _*_, _/_, _%_, _^_, _≤_, _<_}
 use native.Mathlib.Nat.{div-add-mod', mul-add, zero-mul}
 use native.Mathlib.Omega.{arith}
 use lib.ListN.{length}
 use lib.Seq.{length-take-le}
 use Rattle.guard.specs.Guards.{Bytes}
+use Rattle.layout.specs.declared.walking.Cursor.{Cursor}
+use Rattle.layout.specs.Pieces.{total}
+use Rattle.layout.specs.Moves.{Placed}
+use Rattle.layout.specs.Cursors.{Walked}
+use Rattle.layout.proofs.PieceLaws.{placed-more}
 use Rattle.field.specs.declared.Domain.{Domain}
 use Rattle.field.specs.Domains.{signed}
 use Rattle.key.specs.declared.Slot.{Slot}
@@ -25,10 +30,11 @@ use Rattle.engine.specs.Streams.{blockSize, fieldSize, unitSize, inBlock, inUni
 use Rattle.engine.specs.Feeding.{fed, emitted, begun}
 use Rattle.engine.specs.Standing.{Matched}
 use Rattle.engine.specs.declared.Progress.{Progress}
-use Rattle.engine.specs.Parts.{InStep, Room, Fed, written}
+use Rattle.engine.specs.declared.Fed.{Fed}
+use Rattle.engine.specs.Parts.{InStep, Room, Feeds}
 use Rattle.engine.proofs.Settling.{bytes-take}
 use Rattle.engine.proofs.Feeding.{finished-fed}
-use Rattle.engine.proofs.FeedLaws.{begun-in-step, fed-after}
+use Rattle.engine.proofs.FeedLaws.{room-at, begun-in-step, fed-after}
 use Rattle.transfer.specs.declared.Transferred.{Transferred}
 use Rattle.transfer.specs.Rules.{receiveRule, outputOf, errorIn}
 use Rattle.transfer.specs.Transferring.{wireStream, answered, answerOf, receiving, memoryReceived}
@@ -160,6 +166,10 @@ accept k n x count w c e =
       measured = (record { sized = λ s. a .memory s .good .least; short = omega (arith, a .short) }, record { sized = λ s. a .wire s .good .least; short = omega (arith, a .short) });
     }
 
+-- the walk may go to where an admitted transfer begins
+pub walkable : {k : Key} {n x count : ℕ} → Admitted k n x count → Placed (k .layout) (2 ^ 64 - 1) × (x ≤ total (k .layout))
+walkable {k} {n} {x} {count} a = (placed-more {n = n} (omega (arith, a .limit)) (a .placed), omega (arith, a .inside))
+
 -- ---- receive
 
 module _ (k : Key) (memory wire : List ℕ) (x count : ℕ) (c : Usable k) (e : answerOf k memory wire x count ≡ Done) (b : Bytes wire) where
@@ -172,34 +182,32 @@ module _ (k : Key) (memory wire : List ℕ) (x count : ℕ) (c : Usable k) (e : 
       (wireStream k wire count) (bytes-take (streamLength (k .signature .wire) count) wire b) (length-take-le (streamLength (k .signature .wire) count) wire (receive-accepted .wire))
 
   -- what feeding the wire's stream asks
-  pub receive-asks : (InStep (receiveRule (k .signature)) (begun (receiveRule (k .signature)) Empty) × (0 < inUnit (receiveRule (k .signature))))
-      × Room (receiveRule (k .signature)) (begun (receiveRule (k .signature)) Empty) (k .layout) (length memory) x
+  pub receive-asks : (at : Cursor) → Walked (k .layout) x at
+      → (InStep (receiveRule (k .signature)) (begun (receiveRule (k .signature)) Empty) × (0 < inUnit (receiveRule (k .signature))))
+      × Room (receiveRule (k .signature)) (begun (receiveRule (k .signature)) Empty) (k .layout) at (length memory)
       (length (emitted (receiveRule (k .signature)) (begun (receiveRule (k .signature)) Empty) (wireStream k wire count)))
-  receive-asks =
-      let a = receive-accepted .admitted in (
+  receive-asks at w =
+      let a = receive-accepted .admitted in
+      let z = zero-mul (outUnit (receiveRule (k .signature))) in (
         (receive-whole .inStep, receive-whole .some),
-        record {
-          placed = a .placed;
-          fits = omega (arith, receive-whole .size, a .inside, zero-mul (outUnit (receiveRule (k .signature))));
-          small = omega (arith, a .bounded .small);
-        },
+        room-at _ _ _ x at _ _ (a .placed) w (omega arith) (omega (arith, receive-whole .size, a .inside)) (omega (arith, a .bounded .small)),
       )
 
   -- what it gives
-  pub receive-gives : (q : Progress) (after : List ℕ) → Fed (receiveRule (k .signature)) (begun (receiveRule (k .signature)) Empty) (k .layout) x memory (wireStream k wire count) q after
+  pub receive-gives : (at : Cursor) → Walked (k .layout) x at → (f : Fed) (after : List ℕ)
+      → Feeds (receiveRule (k .signature)) (begun (receiveRule (k .signature)) Empty) (k .layout) at memory (wireStream k wire count) f after
       → (_≡_ {A = Transferred} (record {
         outcome = Done;
         taken = streamLength (k .signature .wire) count;
         written = streamLength (k .signature .memory) count;
-        key = withSlot k (keep (k .slot) (q .slot));
+        key = withSlot k (keep (k .slot) (f .progress .slot));
       }) (receiving k memory wire x count)
       × (after ≡ memoryReceived k memory wire x count)
       )
   unfolding receiving memoryReceived
-  receive-gives q after f =
-      let s : q .slot ≡ errorIn (receiveRule (k .signature)) (wireStream k wire count) count = ap (λ (p : Progress). p .slot) (f .progress) ∙ receive-whole .error in
-      let z : x + written (receiveRule (k .signature)) (begun (receiveRule (k .signature)) Empty) ≡ x = omega (arith, zero-mul (outUnit (receiveRule (k .signature)))) in
-      rw e (ap (λ (s : Slot). answered Done k (streamLength (k .signature .wire) count) (streamLength (k .signature .memory) count) s) s, f .memory ∙ rw (z, receive-whole .shown))
+  receive-gives at w f after g =
+      let s : f .progress .slot ≡ errorIn (receiveRule (k .signature)) (wireStream k wire count) count = ap (λ (p : Progress). p .slot) (g .progress) ∙ receive-whole .error in
+      rw e (ap (λ (s : Slot). answered Done k (streamLength (k .signature .wire) count) (streamLength (k .signature .memory) count) s) s, g .stored .memory ∙ rw (w .on, receive-whole .shown))
 
 -- a refused call
 pub receive-refused : (k : Key) (memory wire : List ℕ) (x count : ℕ) (o : Outcome) (r : Refusal) → o ≡ answerOf k memory wire x count → o ≡ Refused r

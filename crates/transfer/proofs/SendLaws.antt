@@ -8,9 +8,12 @@ use native.Mathlib.Omega.{arith}
 use lib.ListN.{length, take, drop, getD, length-take, length-drop}
 use lib.Seq.{take-take, drop-drop, length-take-le, sets-eq}
 use Rattle.layout.specs.declared.Layout.{Layout}
-use Rattle.layout.specs.Pieces.{pieces, places, total}
-use Rattle.layout.specs.Moves.{gathered, spot}
-use Rattle.layout.proofs.PieceLaws.{length-places, spot-runs, one-places, one-total, one-placed}
+use Rattle.layout.specs.declared.walking.Cursor.{Cursor}
+use Rattle.layout.specs.Pieces.{places, total}
+use Rattle.layout.specs.Moves.{gathered}
+use Rattle.layout.specs.Cursors.{ahead, forward, Walked, Readied}
+use Rattle.layout.proofs.PieceLaws.{length-places, one-places, one-total, one-placed}
+use Rattle.layout.proofs.CursorLaws.{run-gathered, run-length, forward-stands, forward-ahead, walked-left}
 use Rattle.layout.proofs.MoveLaws.{length-gathered, scattered-from}
 use Rattle.guard.specs.Guards.{Bytes}
 use Rattle.field.specs.declared.Domain.{Domain}
@@ -28,13 +31,14 @@ use Rattle.engine.specs.declared.Rule.{Rule}
 use Rattle.engine.specs.declared.Progress.{Progress}
 use Rattle.engine.specs.Streams.{inUnit, outUnit}
 use Rattle.engine.specs.Feeding.{begun, emitted}
-use Rattle.engine.specs.Parts.{InStep, Room, Fed, Going, written}
-use Rattle.engine.proofs.FeedLaws.{going-start, going-turn, going-end, part-room}
+use Rattle.engine.specs.declared.Fed.{Fed}
+use Rattle.engine.specs.Parts.{InStep, Room, Feeds}
+use Rattle.engine.proofs.FeedLaws.{room-at, going-start, going-turn, going-end, part-room}
 use Rattle.transfer.specs.declared.Transferred.{Transferred}
 use Rattle.transfer.specs.Rules.{sendRule, outputOf}
 use Rattle.transfer.specs.Transferring.{memoryStream, answered, answerOf, sending, wireSent}
 use Rattle.transfer.proofs.Laws.{Accepted, accept, Whole, whole, ready}
-use Rattle.transfer.specs.Sending.{onePiece, layoutBytes, Drawable, Drawn}
+use Rattle.transfer.specs.Sending.{onePiece, firstBytes, Drawable, Drawing, Drawn}
 
 -- ---- runs of a stream
 
@@ -57,63 +61,71 @@ part-of zero (suc d) k ps h = absurd (omega arith)
 part-of (suc n) (suc d) k [] h = refl
 part-of (suc n) (suc d) k (p ∷ ps) h = part-of n d k ps (omega arith)
 
-module _ (l : Layout) (memory : List ℕ) (x n d : ℕ) (inside : x + n ≤ total l) (h : d < n) where
-  left : ℕ
-  left = spot (pieces l) (x + d) .left
-
-  -- the run at byte x + d has bytes
-  pub run-length : length (gathered memory (take (spot (pieces l) (x + d) .left) (drop (x + d) (places l)))) ≡ spot (pieces l) (x + d) .left
-  run-length =
-      let r = spot-runs (pieces l) (x + d) (omega arith) in
-      length-gathered memory _ ∙ length-take-le (spot (pieces l) (x + d) .left) (drop (x + d) (places l))
-      (rw (length-drop (x + d) (places l), length-places l) (omega (arith, r .inside)))
-
-  pub run-some : 0 < spot (pieces l) (x + d) .left
-  run-some = spot-runs (pieces l) (x + d) (omega arith) .some
-
-  -- and its first bytes are the next of the stream
-  pub run-part : (k : ℕ) → k ≤ spot (pieces l) (x + d) .left → d + k ≤ n
-      → take k (gathered memory (take (spot (pieces l) (x + d) .left) (drop (x + d) (places l)))) ≡ take k (drop d (layoutBytes l memory x n))
-  run-part k a b =
-      gathered-take k memory _ ∙ ap (gathered memory) (take-take k (spot (pieces l) (x + d) .left) (drop (x + d) (places l)) a ∙ ap (take k) (sym (drop-drop d x (places l))) ∙ sym (part-of n d k (drop x (places l)) b))
-      ∙ sym (ap (take k) (gathered-drop d memory (take n (drop x (places l)))) ∙ gathered-take k memory (drop d (take n (drop x (places l)))))
+-- the first k bytes of a run behind d bytes are the next of the stream
+run-part : (memory ps : List ℕ) (n d left k : ℕ) → k ≤ left → d + k ≤ n → take k (gathered memory (take left (drop d ps))) ≡ take k (drop d (firstBytes memory ps n))
+run-part memory ps n d left k a b =
+    gathered-take k memory _ ∙ ap (gathered memory) (take-take k left (drop d ps) a ∙ sym (part-of n d k ps b))
+    ∙ sym (ap (take k) (gathered-drop d memory (take n ps)) ∙ gathered-take k memory (drop d (take n ps)))
 
 -- ---- drawing
 
-module _ (r : Rule) (l : Layout) (memory : List ℕ) (x n : ℕ) (to : Layout) (before : List ℕ) (D : Drawable r l memory x n to (length before)) where
+module _ (r : Rule) (l : Layout) (memory : List ℕ) (x n : ℕ) (to : Layout) (before : List ℕ) (D : Drawable r l memory x n to (length before))
+    (first : Cursor) (F : Walked to 0 first) (start : Cursor) (S : Walked l x start) where
   -- nothing is drawn yet
-  pub draw-start : (q : Progress) → q ≡ begun r Empty → Going r (begun r Empty) to 0 before (layoutBytes l memory x n) q before (drop 0 (layoutBytes l memory x n))
-  draw-start q e = rw e (going-start r (begun r Empty) to 0 before (layoutBytes l memory x n) (length before) refl (D .inStep) (D .some) (D .room))
+  pub draw-start : (q : Progress) → q ≡ begun r Empty → Drawing r l memory start n to first before (record { progress = q; cursor = first }) start 0 before
+  draw-start q e =
+      let z = zero-mul (outUnit r) in
+      record {
+        most = omega arith;
+        going =
+            rw e
+            (going-start r (begun r Empty) to first before (firstBytes memory (ahead l start) n) (length before) refl (D .inStep) (D .some)
+            (room-at _ _ _ 0 first _ _ (D .target) F (omega arith) (rw (S .on) (omega (arith, D .room))) (D .small)));
+        stands = S .stands;
+        on = refl;
+      }
 
-  module _ (q : Progress) (mid : List ℕ) (d : ℕ) (h : d < n) (g : Going r (begun r Empty) to 0 before (layoutBytes l memory x n) q mid (drop d (layoutBytes l memory x n)))
-      (k : ℕ) (run : List ℕ) (e : run ≡ gathered memory (take (spot (pieces l) (x + d) .left) (drop (x + d) (places l)))) (m : k ≡ min (length run) (n - d)) where
-    size : length run ≡ spot (pieces l) (x + d) .left
-    size = ap length e ∙ run-length l memory x n d (D .inside) h
+  module _ (q : Fed) (c : Cursor) (d : ℕ) (mid : List ℕ) (h : d < n) (g : Drawing r l memory start n to first before q c d mid) where
+    -- there are bytes ahead
+    pub draw-more : 0 < length (ahead l c)
+    draw-more = omega (arith, ap length (g .on), length-drop d (ahead l start), walked-left l x start S, D .inside)
 
-    same : take k run ≡ take k (drop d (layoutBytes l memory x n))
-    same = ap (take k) e ∙ run-part l memory x n d (D .inside) h k (omega (arith, size)) (omega arith)
+    -- a run of them, at the same place
+    module _ (c′ : Cursor) (R : Readied l c c′) (k : ℕ) (run : List ℕ) (e : run ≡ take (c′ .left) (drop (c′ .place .0) memory)) (m : k ≡ min (length run) (n - d)) where
+      size : length run ≡ c′ .left
+      size = ap length e ∙ run-length l c′ memory (R .stands) (D .placed)
 
-    pub draw-some : 0 < k
-    draw-some = omega (arith, size, run-some l memory x n d (D .inside) h)
+      same : take k run ≡ take k (drop d (firstBytes memory (ahead l start) n))
+      same =
+          ap (take k) (e ∙ run-gathered l c′ memory (R .stands) (D .placed) ∙ ap (λ (ps : List ℕ). gathered memory (take (c′ .left) ps)) (R .same ∙ g .on))
+          ∙ run-part memory (ahead l start) n d (c′ .left) k (omega (arith, size)) (omega arith)
 
-    pub draw-asks : (InStep r q × (q .input .at < inUnit r)) × Room r q to (length mid) 0 (length (emitted r q (take k run)))
-    draw-asks = ((g .inStep, g .begun), rw same (part-room r (begun r Empty) to 0 before (layoutBytes l memory x n) q mid (drop d (layoutBytes l memory x n)) g k))
+      pub draw-some : (0 < k) × (k ≤ c′ .left) × (d + k ≤ n)
+      draw-some = (omega (arith, size, R .some), omega (arith, size), omega arith)
 
-    pub draw-turn : (q′ : Progress) (mid′ : List ℕ) → Fed r q to 0 mid (take k run) q′ mid′
-        → Going r (begun r Empty) to 0 before (layoutBytes l memory x n) q′ mid′ (drop (d + k) (layoutBytes l memory x n))
-    draw-turn q′ mid′ f =
-        rw (← drop-drop k d (layoutBytes l memory x n))
-        (going-turn r (begun r Empty) to 0 before (layoutBytes l memory x n) q mid (drop d (layoutBytes l memory x n)) g k q′ mid′ (rw same at f))
+      pub draw-asks : (InStep r (q .progress) × (q .progress .input .at < inUnit r)) × Room r (q .progress) to (q .cursor) (length mid) (length (emitted r (q .progress) (take k run)))
+      draw-asks = (
+        (g .going .inStep, g .going .begun),
+        rw same (part-room r (begun r Empty) to first before (firstBytes memory (ahead l start) n) q mid (drop d (firstBytes memory (ahead l start) n)) (g .going) k),
+      )
+
+      pub draw-turn : (q′ : Fed) (mid′ : List ℕ) → Feeds r (q .progress) to (q .cursor) mid (take k run) q′ mid′ → Drawing r l memory start n to first before q′ (forward c′ k) (d + k) mid′
+      draw-turn q′ mid′ f = record {
+        most = draw-some .2;
+        going =
+            rw (← drop-drop k d (firstBytes memory (ahead l start) n))
+            (going-turn r (begun r Empty) to first before (firstBytes memory (ahead l start) n) q mid (drop d (firstBytes memory (ahead l start) n)) (g .going) k q′ mid′ (rw same at f));
+        stands = forward-stands l c′ (R .stands) k (draw-some .1);
+        on = forward-ahead l c′ (R .stands) k (draw-some .1) ∙ ap (drop k) (R .same ∙ g .on) ∙ drop-drop k d (ahead l start);
+      }
 
   -- all is drawn
-  pub draw-end : (q : Progress) (after : List ℕ) (d : ℕ) → d ≡ n → Going r (begun r Empty) to 0 before (layoutBytes l memory x n) q after (drop d (layoutBytes l memory x n))
-      → Drawn r l memory x n to before (q .slot) after
-  draw-end q after d e g =
-      let all : length (drop d (layoutBytes l memory x n)) ≡ 0 =
-      length-drop d (layoutBytes l memory x n) ∙ rw (length-gathered memory (take n (drop x (places l))), length-take n (drop x (places l))) (omega (arith, e)) in
-      let f = going-end r (begun r Empty) to 0 before (layoutBytes l memory x n) q after (drop d (layoutBytes l memory x n)) g all in
-      let z : 0 + written r (begun r Empty) ≡ 0 = omega (arith, zero-mul (outUnit r)) in
-      record { error = ap (λ (p : Progress). p .slot) (f .progress); wire = f .memory ∙ rw z }
+  pub draw-end : (q : Fed) (c : Cursor) (d : ℕ) (after : List ℕ) → d ≡ n → Drawing r l memory start n to first before q c d after → Drawn r l memory x n to before (q .progress .slot) after
+  draw-end q c d after e g =
+      let all : length (drop d (firstBytes memory (ahead l start) n)) ≡ 0 =
+      length-drop d (firstBytes memory (ahead l start) n) ∙ rw (length-gathered memory (take n (ahead l start)), length-take n (ahead l start)) (omega (arith, e)) in
+      let f = rw (S .on) at (going-end r (begun r Empty) to first before (firstBytes memory (ahead l start) n) q after (drop d (firstBytes memory (ahead l start) n)) (g .going) all) in
+      record { error = ap (λ (p : Progress). p .slot) (f .progress); wire = f .stored .memory ∙ rw (F .on) }
 
 -- ---- an accepted send
 
@@ -151,26 +163,20 @@ module _ (k : Key) (memory wire : List ℕ) (x count : ℕ) (c : Usable k) (e : 
       let a = send-accepted .admitted in
       omega (arith, stream-double (k .signature .wire) count (send-accepted .measured .1 .sized), data-in-stream (k .signature .memory) count, a .inside, a .bounded .small)
 
-  room : Room (sendRule (k .signature)) (begun (sendRule (k .signature)) Empty) (onePiece (streamLength (k .signature .wire) count)) (length wire) 0
-      (length (emitted (sendRule (k .signature)) (begun (sendRule (k .signature)) Empty) (memoryStream k memory x count)))
-  room =
+  pub send-asks : Drawable (sendRule (k .signature)) (k .layout) memory x (streamLength (k .signature .memory) count) (onePiece (streamLength (k .signature .wire) count)) (length wire)
+  send-asks =
       let o = onePiece (streamLength (k .signature .wire) count) in
       let t = one-total o _ _ refl refl refl in
       record {
-        placed = one-placed o _ _ refl refl refl (length wire) (omega (arith, send-accepted .wire));
-        fits = omega (arith, t, send-whole .size, zero-mul (outUnit (sendRule (k .signature))));
+        placed = send-accepted .admitted .placed;
+        inside = send-accepted .admitted .inside;
+        inStep = send-whole .inStep;
+        some = send-whole .some;
+        target = one-placed o _ _ refl refl refl (length wire) (omega (arith, send-accepted .wire));
+        near = one-placed o _ _ refl refl refl (2 ^ 64 - 1) (omega (arith, send-small));
+        room = omega (arith, t, send-whole .size);
         small = omega (arith, t, send-small);
       }
-
-  pub send-asks : Drawable (sendRule (k .signature)) (k .layout) memory x (streamLength (k .signature .memory) count) (onePiece (streamLength (k .signature .wire) count)) (length wire)
-  send-asks = record {
-    placed = send-accepted .admitted .placed;
-    inside = send-accepted .admitted .inside;
-    small = omega (arith, send-accepted .admitted .bounded .small);
-    inStep = send-whole .inStep;
-    some = send-whole .some;
-    room = room;
-  }
 
   pub send-gives : (error : Slot) (after : List ℕ)
       → Drawn (sendRule (k .signature)) (k .layout) memory x (streamLength (k .signature .memory) count) (onePiece (streamLength (k .signature .wire) count)) wire error after

@@ -30,15 +30,17 @@ pub fn receive(
     let rule = rules::receive_rule(signature);
     let taken = key::stream_length(signature.wire, data_length);
     let n = taken as usize;
-    let p = engine::feed(
+    let at = layout::walk(layout, offset);
+    let fed = engine::feed(
         rule,
         engine::begin(rule, Slot::Empty),
         layout,
         memory,
-        offset,
+        at,
         &wire[0..n],
     );
-    let slot = p.slot;
+    let progress = fed.progress;
+    let slot = progress.slot;
     Transferred {
         outcome: Outcome::Done,
         taken,

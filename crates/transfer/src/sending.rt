@@ -7,6 +7,7 @@ ghost use Rattle.transfer.specs.Transferring as transferring;
 ghost use Rattle.transfer.specs.Sending.{onePiece, Drawable, Drawn};
 use crate::Transferred;
 use crate::rules;
+use engine::Fed;
 use engine::Rule;
 use key::Key;
 use key::Outcome;
@@ -54,15 +55,24 @@ fn draw(
     requires { ⌜ Drawable rule from (now memory) (offset .0) n to (length (now wire)) ⌝ }
     ensures { λ r. ⌜ Drawn rule from (now (memory .entry)) (offset .0) n to (now (wire .entry)) r (now (wire .exit)) ⌝ }
 {
-    let mut p = engine::begin(rule, Slot::Empty);
+    let begun = engine::begin(rule, Slot::Empty);
+    let cursor = layout::walk(to, LayoutOffset::new(0));
+    let mut p = Fed {
+        progress: begun,
+        cursor,
+    };
+    let mut c = layout::walk(from, offset);
     let mut done: u64 = 0;
     while done < n {
-        let run = layout::run(from, memory, offset.ahead(done));
+        c = layout::ready(from, c);
+        let run = layout::run(memory, c);
         let m = lesser(run.len(), n - done);
-        p = engine::feed(rule, p, to, wire, LayoutOffset::new(0), &run[0..m]);
+        p = engine::feed(rule, p.progress, to, wire, p.cursor, &run[0..m]);
+        c = layout::forward(c, m as u64);
         done += m as u64;
     }
-    p.slot
+    let progress = p.progress;
+    progress.slot
 }
 
 // Memory's stream checked and put on the wire.

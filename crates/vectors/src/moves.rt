@@ -1,5 +1,6 @@
 // J's bytes gathered, and scattered over another memory.
 ghost use mathlib.Core.Path.{_≡_};
+ghost use Prim.Native.Nat.{_<_};
 ghost use lib.ListN.{length};
 ghost use Rattle.vectors.specs.Needed.{Moved};
 use crate::layouts;
@@ -54,16 +55,30 @@ fn print_same(label: &[u8], a: &[u8], b: &[u8], kind: &[u8])
     lines::text(kind);
 }
 
+// Layout byte x of a memory.
+fn byte_at(l: Layout, m: &Memory, x: u64) -> u8
+    requires { ⌜ (Moved l) × (x < 1040) ⌝ }
+{
+    let c = layout::ready(l, layout::walk(l, LayoutOffset::new(x)));
+    let at = c.place.number() as usize;
+    m[at]
+}
+
 fn gather(l: Layout, from: &Memory, bytes: &mut Bytes)
     requires { ⌜ Moved l ⌝ }
 {
-    layout::gather(l, from, LayoutOffset::new(0), bytes);
+    let mut i = 0;
+    while i < bytes.len() {
+        bytes[i] = byte_at(l, from, i as u64);
+        i += 1;
+    }
 }
 
 fn scatter(l: Layout, to: &mut Memory, bytes: &Bytes)
     requires { ⌜ Moved l ⌝ }
 {
-    layout::scatter(l, to, LayoutOffset::new(0), bytes);
+    let start = layout::walk(l, LayoutOffset::new(0));
+    layout::scatter(l, to, start, bytes);
 }
 
 // The layout's bytes gathered from one memory, scattered over another, and gathered again from there.

@@ -1,4 +1,3 @@
-use mathlib.Core.Path.{_∙_}
 use native.Mathlib.Omega.{arith}
 use Rattle.engine.proofs.BareLaws.{bare-room, bare-none, bare-done}
 use borrow.Author.Needs.{needs}
@@ -8,23 +7,17 @@ use Rattle.engine.proofs.stream.feed_bare.Tie as tie
 returns : tie.Need-returns
 returns c =
     let s = c .before .before .before in
-    bare-none _ (s .pre .0 .2) _ _ _ _ _ (s .pre .0 .0) (s .pre .0 .1) (c .if1 .taken)
-
-written-requires : tie.Need-written-requires
-written-requires c κs = search needs
-
-ahead-requires : tie.Need-ahead-requires
-ahead-requires c κs = search needs
+    bare-none _ (s .pre .0 .2) _ _ _ _ _ (s .pre .0 .0) (s .pre .0 .1) (c .if1 .taken) (s .pre .1 .stands)
 
 scatter-requires : tie.Need-scatter-requires
 scatter-requires c κs =
-    let s = c .before .before .before .before .before .before in
+    let s = c .before .before .before .before in
     let R = bare-room _ (s .pre .0 .2) _ _ _ (s .args .memory .now) (s .args .bytes .now) (s .pre .0 .0) (s .pre .0 .1) _ (s .pre .1) in
-    (s .pre .1 .placed, rw (c .ahead .ensures, c .before .written .ensures) (R .0))
+    (s .pre .1 .placed, (s .pre .1 .stands, R .0))
 
 add-at-block : tie.Need-add-at-block
 add-at-block c =
-    let s = c .before .before .before .before .before .before .before .before .before .before .before in
+    let s = c .before .before .before .before .before .before .before .before .before in
     let R = bare-room _ (s .pre .0 .2) _ _ _ (s .args .memory .now) (s .args .bytes .now) (s .pre .0 .0) (s .pre .0 .1) _ (s .pre .1) in
     omega (arith, R .1 .input, R .2)
 
@@ -33,7 +26,7 @@ at-block-requires c κs = search needs
 
 add-at-block-2 : tie.Need-add-at-block-2
 add-at-block-2 c =
-    let s = c .before .before .before .before .before .before .before .before .before .before .before .before .before in
+    let s = c .before .before .before .before .before .before .before .before .before .before .before in
     let R = bare-room _ (s .pre .0 .2) _ _ _ (s .args .memory .now) (s .args .bytes .now) (s .pre .0 .0) (s .pre .0 .1) _ (s .pre .1) in
     omega (arith, R .1 .output, R .2)
 
@@ -46,17 +39,15 @@ same-length c = search needs
 returns-2 : tie.Need-returns-2
 returns-2 c =
     let w = c .before .before .before .before .before .before .before in
-    let s = w .before .before .before .before .before .before .before in
+    let s = w .before .before .before .before .before in
     rw (c .at-block2 .ensures, c .before .before .at-block .ensures)
-    (bare-done _ (s .pre .0 .2) _ _ _ _ _ (s .pre .0 .0) (s .pre .0 .1) (w .before .before .before .before .if1 .left) _ (w .scatter .ensures ∙ rw (w .before .ahead .ensures, w .before .before .written .ensures)))
+    (bare-done _ (s .pre .0 .2) _ _ _ _ _ (s .pre .0 .0) (s .pre .0 .1) (w .before .before .if1 .left) _ _ (w .scatter .ensures))
 
 pub feed-bare-spec : {M : Type 1} → statement M
 feed-bare-spec =
     tie.close
     (tie.spec
     returns
-    written-requires
-    ahead-requires
     scatter-requires
     add-at-block
     at-block-requires

@@ -11,10 +11,10 @@ use Rattle.engine.proofs.stream.feed_parts.Statement.{statement}
 use Rattle.engine.proofs.stream.feed_parts.Tie as tie
 
 abbrev Inv-loop : tie.InvT-loop
-Inv-loop rule l memory₀ start bytes q₀ rest₀ memory q rest = Going rule q₀ l (start .0) memory₀ bytes q memory rest
+Inv-loop rule l memory₀ bytes q₀ rest₀ memory q rest = Going rule (q₀ .progress) l (q₀ .cursor) memory₀ bytes q memory rest
 
 abbrev μ-loop : tie.MeasureT-loop
-μ-loop rule l memory₀ start bytes q₀ rest₀ memory q rest = length rest
+μ-loop rule l memory₀ bytes q₀ rest₀ memory q rest = length rest
 
 loop-holds : tie.Need-loop-holds Inv-loop μ-loop
 loop-holds c = going-start _ _ _ _ _ _ _ refl (c .before .before .pre .0 .0) (c .before .before .pre .0 .1) (c .before .before .pre .1)
@@ -60,7 +60,7 @@ loop-again c =
     (going-turn _ _ _ _ _ _ _ _ _ (l .loop .inv) (n .result) _ _ (rw (sub-zero (n .result)) at (c .before .before .before .feed-part .ensures)))
 
 same-length : tie.Need-same-length Inv-loop μ-loop
-same-length c = c .before .loop .inv .size
+same-length c = c .before .loop .inv .storing .size
 
 returns : tie.Need-returns Inv-loop μ-loop
 returns c = going-end _ _ _ _ _ _ _ _ _ (c .before .loop .inv) (omega (arith, c .loop-test .left))

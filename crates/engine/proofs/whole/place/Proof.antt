@@ -1,6 +1,6 @@
 use mathlib.Core.Path.{sym, _∙_}
 use native.Mathlib.Omega.{arith}
-use Rattle.layout.proofs.MoveLaws.{scattered-none}
+use Rattle.layout.proofs.CursorLaws.{stored-nothing}
 use borrow.Author.Needs.{needs}
 use Rattle.engine.proofs.whole.place.Statement.{statement}
 use Rattle.engine.proofs.whole.place.Tie as tie
@@ -11,33 +11,26 @@ signed-requires c κs = search needs
 field-made-requires : tie.Need-field-made-requires
 field-made-requires c κs = search needs
 
-written-requires : tie.Need-written-requires
-written-requires c κs = search needs
-
-ahead-requires : tie.Need-ahead-requires
-ahead-requires c κs = search needs
-
 slice-aggregate-scatter : tie.Need-slice-aggregate-scatter
 slice-aggregate-scatter c = search needs
 
 scatter-requires : tie.Need-scatter-requires
 scatter-requires c κs =
-    let f = c .before .before .before .before in
+    let f = c .before .before in
     let s = f .before .before .before .before in
     let fits = rw (sym (f .before .before .signed .ensures) ∙ f .before .if1 .taken) at (s .pre .fits) in
-    (s .pre .placed, rw (c .before .before .ahead .ensures, c .before .before .before .written .ensures, f .field-made .ensures) (omega arith))
+    (s .pre .placed, (s .pre .stands, rw (f .field-made .ensures) fits))
 
 same-length : tie.Need-same-length
 same-length c = search needs
 
 returns : tie.Need-returns
 returns c =
-    let w = c .before .before .before .before .before .before in
-    c .before .before .scatter .ensures
-    ∙ rw (c .before .before .before .before .before .ahead .ensures, w .written .ensures, w .before .field-made .ensures, sym (w .before .before .before .signed .ensures) ∙ w .before .before .if1 .taken)
+    let f = c .before .before .before .before .before in
+    rw (sym (f .before .before .signed .ensures) ∙ f .before .if1 .taken) (rw (f .field-made .ensures) at (c .before .before .scatter .ensures))
 
 returns-2 : tie.Need-returns-2
-returns-2 c = rw (sym (c .before .signed .ensures) ∙ c .if1 .left) (sym (scattered-none _ _))
+returns-2 c = rw (sym (c .before .signed .ensures) ∙ c .if1 .left) (stored-nothing _ _ _ (c .before .before .before .pre .stands))
 
 pub place-spec : {M : Type 1} → statement M
 place-spec =
@@ -45,8 +38,6 @@ place-spec =
     (tie.spec
     signed-requires
     field-made-requires
-    written-requires
-    ahead-requires
     slice-aggregate-scatter
     scatter-requires
     same-length

@@ -8,7 +8,7 @@ unit-size-requires : tie.Need-unit-size-requires
 unit-size-requires c κs = search needs
 
 returns : tie.Need-returns
-returns c = settled-partial _ _ _ _ _ _ (c .before .before .unit-size .ensures .0) (c .if1 .taken)
+returns c = settled-partial _ _ _ _ _ _ (c .before .before .unit-size .ensures .0) (c .if1 .taken) (c .before .before .before .before .before .pre .1 .stands)
 
 place-requires : tie.Need-place-requires
 place-requires c κs =
@@ -18,7 +18,7 @@ place-requires c κs =
 next-requires : tie.Need-next-requires
 next-requires c κs =
     let s = c .before .before .before .before .before .before .before .before .before in
-    countable _ _ (s .pre .0) (omega (arith, s .pre .1 .fits, s .pre .1 .small))
+    countable _ _ (s .pre .0) (omega (arith, s .pre .1 .small))
 
 same-length : tie.Need-same-length
 same-length c = search needs
@@ -26,7 +26,7 @@ same-length c = search needs
 returns-2 : tie.Need-returns-2
 returns-2 c =
     let u = c .before .before .before .before .before .before .before in
-    settled-whole _ _ _ _ _ _ (u .unit-size .ensures .0) (c .before .before .before .before .before .if1 .left) _ _ (c .next .ensures) (c .before .before .before .place .ensures)
+    settled-whole _ _ _ _ _ _ (u .unit-size .ensures .0) (c .before .before .before .before .before .if1 .left) _ _ _ (c .next .ensures) (c .before .before .before .place .ensures)
 
 pub settle-spec : {M : Type 1} → statement M
 settle-spec =

@@ -1,8 +1,29 @@
-use mathlib.Core.Path.{sym, _∙_}
-use Rattle.packets.proofs.PacketLaws.{packet-told, packet-refused, packet-room, packet-taken, packet-written, packet-done, session-in-step}
+use mathlib.Core.Path.{_≡_, sym, _∙_}
+use Prim.Native.Nat.{_+_, _≤_}
+use lib.ListN.{length}
+use Rattle.layout.specs.Cursors.{Walked}
+use Rattle.engine.specs.Parts as parts
+use Rattle.packets.specs.Sessions.{ruleOf, takenBy, wireLength}
+use Rattle.packets.proofs.PacketLaws.{packet-told, packet-refused, packet-at, packet-room, packet-taken, packet-written, packet-done, session-in-step}
 use borrow.Author.Needs.{needs}
 use Rattle.packets.proofs.packing.packet.Statement.{statement}
 use Rattle.packets.proofs.packing.packet.Tie as tie
+
+-- what an accepted packet tells
+told :
+    (r : tie.After-receive-rule)
+    → let a = r .before .before .before .before .before .before .before .before .before .before .args in
+    (length (a .memory .now) ≡ a .session .key .«memory_length») × (takenBy (a .session) + length (a .bytes .now) ≤ wireLength (a .session))
+told r =
+    let t = r .before .before .before .before in
+    packet-told _ _ _ (sym (t .before .before .answer .ensures) ∙ t .enum-told .given .1)
+
+-- the cursor stands at the next output byte's place
+stands :
+    (w : tie.After-walk)
+    → let a = w .before .before .before .before .before .before .before .before .before .before .before .before .before .args in
+    Walked (a .session .key .layout) (a .session .start .0 + parts.written (ruleOf (a .session)) (a .session .progress)) (w .walk .result)
+stands w = rw (w .before .ahead .ensures, w .before .before .written .ensures, w .before .before .before .receive-rule .ensures) at (w .walk .ensures)
 
 answer-requires : tie.Need-answer-requires
 answer-requires c κs = search needs
@@ -22,39 +43,54 @@ returns c = packet-refused _ _ _ _ _ (c .before .before .answer .ensures) (c .en
 receive-rule-requires : tie.Need-receive-rule-requires
 receive-rule-requires c κs = search needs
 
+written-requires : tie.Need-written-requires
+written-requires c κs =
+    let s = c .before .before .before .before .before .before .before .before .before .before in
+    rw (c .receive-rule .ensures) (packet-at _ (s .pre) (s .args .bytes .now) (told c .1) .0)
+
+ahead-requires : tie.Need-ahead-requires
+ahead-requires c κs =
+    let r = c .before in
+    let s = r .before .before .before .before .before .before .before .before .before .before in
+    rw (c .written .ensures, r .receive-rule .ensures) (packet-at _ (s .pre) (s .args .bytes .now) (told r .1) .1)
+
+walk-requires : tie.Need-walk-requires
+walk-requires c κs =
+    let r = c .before .before in
+    let s = r .before .before .before .before .before .before .before .before .before .before in
+    let at = packet-at _ (s .pre) (s .args .bytes .now) (told r .1) in
+    (at .2, rw (c .ahead .ensures, c .before .written .ensures, r .receive-rule .ensures) (at .3))
+
 feed-requires : tie.Need-feed-requires
 feed-requires c κs =
-    let t = c .before .before .before .before in
-    let s = t .before .before .before .before .before .before in
-    let d = packet-told _ _ _ (sym (t .before .before .answer .ensures) ∙ t .enum-told .given .1) in
-    rw (c .before .receive-rule .ensures)
-    (session-in-step _ (s .pre), packet-room _ (s .pre) (s .args .bytes .now) (d .1) _ (d .0))
+    let w = c .before in
+    let r = w .before .before .before in
+    let s = r .before .before .before .before .before .before .before .before .before .before in
+    rw (r .receive-rule .ensures)
+    (session-in-step _ (s .pre), packet-room _ (s .pre) (s .args .bytes .now) (told r .1) _ (told r .0) _ (stands w))
 
 taken-requires : tie.Need-taken-requires
 taken-requires c κs =
-    let t = c .before .before .before .before .before .before .before in
-    let s = t .before .before .before .before .before .before in
-    let d = packet-told _ _ _ (sym (t .before .before .answer .ensures) ∙ t .enum-told .given .1) in
-    rw (c .before .before .feed .ensures .progress, c .before .before .before .before .receive-rule .ensures)
-    (packet-taken _ (s .pre) (s .args .bytes .now) (d .1))
+    let r = c .before .before .before .before .before .before .before .before in
+    let s = r .before .before .before .before .before .before .before .before .before .before in
+    rw (c .before .before .before .feed .ensures .progress, r .receive-rule .ensures) (packet-taken _ (s .pre) (s .args .bytes .now) (told r .1))
 
-written-requires : tie.Need-written-requires
-written-requires c κs =
-    let t = c .before .before .before .before .before .before .before .before in
-    let s = t .before .before .before .before .before .before in
-    let d = packet-told _ _ _ (sym (t .before .before .answer .ensures) ∙ t .enum-told .given .1) in
-    rw (c .before .before .before .feed .ensures .progress, c .before .before .before .before .before .receive-rule .ensures)
-    (packet-written _ (s .pre) (s .args .bytes .now) (d .1))
+written-requires-2 : tie.Need-written-requires-2
+written-requires-2 c κs =
+    let r = c .before .before .before .before .before .before .before .before .before in
+    let s = r .before .before .before .before .before .before .before .before .before .before in
+    rw (c .before .before .before .before .feed .ensures .progress, r .receive-rule .ensures) (packet-written _ (s .pre) (s .args .bytes .now) (told r .1))
 
 same-length-2 : tie.Need-same-length-2
 same-length-2 c = search needs
 
 returns-2 : tie.Need-returns-2
 returns-2 c =
-    let f = c .before .before .before .before in
-    let t = f .before .before .before .before .before in
-    rw (c .written .ensures, c .before .taken .ensures, f .before .before .receive-rule .ensures)
-    (packet-done _ _ _ (sym (t .before .before .answer .ensures) ∙ t .enum-told .given .1) _ _ (rw (f .before .before .receive-rule .ensures) at (f .feed .ensures)))
+    let f = c .before .before .before .before .before in
+    let r = f .before .before .before .before .before in
+    let t = r .before .before .before .before in
+    rw (c .written2 .ensures, c .before .taken .ensures, r .receive-rule .ensures)
+    (packet-done _ _ _ (sym (t .before .before .answer .ensures) ∙ t .enum-told .given .1) _ (stands (f .before .before)) _ _ (rw (r .receive-rule .ensures) at (f .feed .ensures)))
 
 pub packet-spec : {M : Type 1} → statement M
 packet-spec =
@@ -66,8 +102,11 @@ packet-spec =
     same-length
     returns
     receive-rule-requires
+    written-requires
+    ahead-requires
+    walk-requires
     feed-requires
     taken-requires
-    written-requires
+    written-requires-2
     same-length-2
     returns-2)

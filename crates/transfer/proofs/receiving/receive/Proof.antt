@@ -1,7 +1,6 @@
-use Rattle.transfer.proofs.Laws.{accept}
 use mathlib.Core.Path.{sym, _∙_}
 use native.Mathlib.Nat.{sub-zero}
-use Rattle.transfer.proofs.Laws.{receive-refused, receive-asks, receive-gives}
+use Rattle.transfer.proofs.Laws.{accept, walkable, receive-refused, receive-asks, receive-gives}
 use borrow.Author.Needs.{needs}
 use Rattle.transfer.proofs.receiving.receive.Statement.{statement}
 use Rattle.transfer.proofs.receiving.receive.Tie as tie
@@ -32,6 +31,11 @@ stream-length-requires c κs =
     let a = c .before .before .before .before .before in
     accept _ _ _ _ _ (a .before .before .before .before .pre) (sym (a .admit-transfer .ensures) ∙ c .before .before .before .enum-told .given .1) .measured .1
 
+walk-requires : tie.Need-walk-requires
+walk-requires c κs =
+    let a = c .before .before .before .before .before .before in
+    walkable (accept _ _ _ _ _ (a .before .before .before .before .pre) (sym (a .admit-transfer .ensures) ∙ c .before .before .before .before .enum-told .given .1) .admitted)
+
 begin-requires : tie.Need-begin-requires
 begin-requires c κs = search needs
 
@@ -43,23 +47,23 @@ part-feed-start c = search needs
 
 part-feed-end : tie.Need-part-feed-end
 part-feed-end c =
-    let a = c .before .before .before .before .before .before .before .before in
-    let A = accept _ _ _ _ _ (a .before .before .before .before .pre) (sym (a .admit-transfer .ensures) ∙ c .before .before .before .before .before .before .enum-told .given .1) in
-    rw (c .before .before .stream-length .ensures) (A .wire)
+    let a = c .before .before .before .before .before .before .before .before .before in
+    let A = accept _ _ _ _ _ (a .before .before .before .before .pre) (sym (a .admit-transfer .ensures) ∙ c .before .before .before .before .before .before .before .enum-told .given .1) in
+    rw (c .before .before .before .stream-length .ensures) (A .wire)
 
 feed-requires : tie.Need-feed-requires
 feed-requires c κs =
     let d = c .before .before in
-    let a = d .before .before .before .before .before .before .before in
+    let a = d .before .before .before .before .before .before .before .before in
     let s = a .before .before .before .before in
-    rw (d .begin .ensures, d .before .before .receive-rule .ensures, d .before .stream-length .ensures, sub-zero _)
-    (receive-asks _ (s .args .memory .now) (s .args .wire .now) _ _ (s .pre) (sym (a .admit-transfer .ensures) ∙ d .before .before .before .before .before .enum-told .given .1)
-    (λ i. a .before .before .shared-slice-known .given i .fits))
+    rw (d .begin .ensures, d .before .before .before .receive-rule .ensures, d .before .before .stream-length .ensures, sub-zero _)
+    (receive-asks _ (s .args .memory .now) (s .args .wire .now) _ _ (s .pre) (sym (a .admit-transfer .ensures) ∙ d .before .before .before .before .before .before .enum-told .given .1)
+    (λ i. a .before .before .shared-slice-known .given i .fits) _ (d .before .walk .ensures))
 
 stream-length-requires-2 : tie.Need-stream-length-requires-2
 stream-length-requires-2 c κs =
-    let a = c .before .before .before .before .before .before .before .before .before .before .before .before in
-    accept _ _ _ _ _ (a .before .before .before .before .pre) (sym (a .admit-transfer .ensures) ∙ c .before .before .before .before .before .before .before .before .before .before .enum-told .given .1) .measured .0
+    let a = c .before .before .before .before .before .before .before .before .before .before .before .before .before .before in
+    accept _ _ _ _ _ (a .before .before .before .before .pre) (sym (a .admit-transfer .ensures) ∙ c .before .before .before .before .before .before .before .before .before .before .before .before .enum-told .given .1) .measured .0
 
 record-requires : tie.Need-record-requires
 record-requires c κs = search needs
@@ -69,14 +73,14 @@ same-length-2 c = search needs
 
 returns-2 : tie.Need-returns-2
 returns-2 c =
-    let f = c .before .before .before .before in
+    let f = c .before .before .before .before .before in
     let d = f .before .before .before in
-    let a = d .before .before .before .before .before .before .before in
+    let a = d .before .before .before .before .before .before .before .before in
     let s = a .before .before .before .before in
-    rw (c .«record» .ensures, c .before .stream-length2 .ensures, d .before .stream-length .ensures)
-    (receive-gives _ (s .args .memory .now) (s .args .wire .now) _ _ (s .pre) (sym (a .admit-transfer .ensures) ∙ d .before .before .before .before .before .enum-told .given .1)
-    (λ i. a .before .before .shared-slice-known .given i .fits) _ _
-    (rw (d .begin .ensures, d .before .before .receive-rule .ensures, d .before .stream-length .ensures, sub-zero _) at (f .feed .ensures)))
+    rw (c .«record» .ensures, c .before .stream-length2 .ensures, d .before .before .stream-length .ensures)
+    (receive-gives _ (s .args .memory .now) (s .args .wire .now) _ _ (s .pre) (sym (a .admit-transfer .ensures) ∙ d .before .before .before .before .before .before .enum-told .given .1)
+    (λ i. a .before .before .shared-slice-known .given i .fits) _ (d .before .walk .ensures) _ _
+    (rw (d .begin .ensures, d .before .before .before .receive-rule .ensures, d .before .before .stream-length .ensures, sub-zero _) at (f .feed .ensures)))
 
 pub receive-spec : {M : Type 1} → statement M
 receive-spec =
@@ -90,6 +94,7 @@ receive-spec =
     returns
     receive-rule-requires
     stream-length-requires
+    walk-requires
     begin-requires
     sub-feed
     part-feed-start

@@ -1,36 +1,54 @@
 use mathlib.Core.Path.{_≡_}
-use Prim.Native.Nat.{_-_, _≤_}
+use Prim.Native.Nat.{_+_, _-_, _≤_, _<_}
 use native.Mathlib.Nat.{sub-zero}
 use native.Mathlib.Omega.{arith}
 use borrow.Author.Needs.{needs}
-use lib.ListN.{drop}
-use Rattle.key.specs.declared.Slot.the-variants.{Empty}
-use Rattle.engine.specs.Feeding.{begun}
-use Rattle.engine.specs.Parts.{Going}
-use Rattle.transfer.specs.Sending.{layoutBytes}
-use Rattle.transfer.proofs.SendLaws.{draw-start, draw-some, draw-asks, draw-turn, draw-end}
+use lib.ListN.{length}
+use Rattle.layout.specs.Cursors.{Walked}
+use Rattle.layout.proofs.PieceLaws.{placed-more}
+use Rattle.transfer.specs.Sending.{Drawing}
+use Rattle.transfer.proofs.SendLaws.{draw-start, draw-more, draw-some, draw-asks, draw-turn, draw-end}
 use Rattle.transfer.proofs.sending.draw.Statement.{statement}
 use Rattle.transfer.proofs.sending.draw.Tie as tie
 
 abbrev Inv-loop : tie.InvT-loop
-Inv-loop rule from memory offset n to wire₀ p₀ done₀ wire p done = (done ≤ n) × Going rule (begun rule Empty) to 0 wire₀ (layoutBytes from memory (offset .0) n) p wire (drop done (layoutBytes from memory (offset .0) n))
+Inv-loop rule from memory n to wire₀ p₀ c₀ done₀ wire p c done = Drawing rule from memory c₀ n to (p₀ .cursor) wire₀ p c done wire
 
 abbrev μ-loop : tie.MeasureT-loop
-μ-loop rule from memory offset n to wire₀ p₀ done₀ wire p done = n - done
+μ-loop rule from memory n to wire₀ p₀ c₀ done₀ wire p c done = n - done
 
 begin-requires : tie.Need-begin-requires Inv-loop μ-loop
 begin-requires c κs = search needs
 
-loop-holds : tie.Need-loop-holds Inv-loop μ-loop
-loop-holds c = (omega arith, draw-start _ _ _ _ _ _ _ (c .before .before .before .pre) _ (c .begin .ensures))
+new-requires : tie.Need-new-requires Inv-loop μ-loop
+new-requires c κs = search needs
 
-ahead-requires : tie.Need-ahead-requires Inv-loop μ-loop
-ahead-requires c κs = omega (arith, c .before .before .before .before .before .pre .inside, c .before .before .before .before .before .pre .small)
+walk-requires : tie.Need-walk-requires Inv-loop μ-loop
+walk-requires c κs =
+    let s = c .before .before .before .before in
+    (s .pre .near, rw (c .new .ensures) (omega arith))
+
+walk-requires-2 : tie.Need-walk-requires-2 Inv-loop μ-loop
+walk-requires-2 c κs =
+    let s = c .before .before .before .before .before in
+    (placed-more {n = length (s .args .memory .now)} (search needs) (s .pre .placed), omega (arith, s .pre .inside))
+
+-- the wire is filled from its start
+first : (c : tie.After-walk2 Inv-loop μ-loop) → Walked (c .before .before .before .before .before .before .args .to) 0 (c .before .walk .result)
+first c = rw (c .before .before .new .ensures) at (c .before .walk .ensures)
+
+loop-holds : tie.Need-loop-holds Inv-loop μ-loop
+loop-holds c = draw-start _ _ _ _ _ _ _ (c .before .before .before .before .before .before .pre) _ (first c) _ (c .walk2 .ensures) _ (c .before .before .before .begin .ensures)
+
+ready-requires : tie.Need-ready-requires Inv-loop μ-loop
+ready-requires c κs =
+    let l = c .before in
+    let w = l .before in
+    let s = w .before .before .before .before .before .before in
+    (placed-more {n = length (s .args .memory .now)} (search needs) (s .pre .placed), l .loop .inv .stands, draw-more _ _ _ _ _ _ _ (s .pre) _ (first w) _ (w .walk2 .ensures) _ _ _ _ (c .loop-test .taken) (l .loop .inv))
 
 run-requires : tie.Need-run-requires Inv-loop μ-loop
-run-requires c κs =
-    let s = c .before .before .before .before .before .before in
-    (s .pre .placed, rw (c .ahead .ensures) (omega (arith, s .pre .inside)))
+run-requires c κs = c .ready .ensures .stands .inside _ (c .before .before .before .before .before .before .before .before .before .pre .placed)
 
 sub-lesser : tie.Need-sub-lesser Inv-loop μ-loop
 sub-lesser c = search needs
@@ -38,58 +56,69 @@ sub-lesser c = search needs
 lesser-requires : tie.Need-lesser-requires Inv-loop μ-loop
 lesser-requires c κs = search needs
 
-new-requires : tie.Need-new-requires Inv-loop μ-loop
-new-requires c κs = search needs
-
 sub-feed : tie.Need-sub-feed Inv-loop μ-loop
 sub-feed c = search needs
 
 part-feed-start : tie.Need-part-feed-start Inv-loop μ-loop
 part-feed-start c = search needs
 
+-- a run has bytes, and some of them or all are drawn
+some :
+    (c : tie.After-lesser Inv-loop μ-loop)
+    → let l = c .before .before .before .before in
+    (0 < c .lesser .result) × (c .lesser .result ≤ c .before .before .ready .result .left) × (l .loop .done + c .lesser .result ≤ l .before .before .before .before .before .before .before .args .n)
+some c =
+    let t = c .before .before .before in
+    let w = t .before .before in
+    draw-some _ _ _ _ _ _ _ (w .before .before .before .before .before .before .pre) _ (first w) _ (w .walk2 .ensures) _ _ _ _ (t .loop-test .taken) (t .before .loop .inv)
+    _ (c .before .before .ready .ensures) _ _ (c .before .run .ensures) (c .lesser .ensures)
+
 part-feed-end : tie.Need-part-feed-end Inv-loop μ-loop
-part-feed-end c = omega (arith, c .before .before .lesser .ensures)
+part-feed-end c = omega (arith, c .before .lesser .ensures)
 
 feed-requires : tie.Need-feed-requires Inv-loop μ-loop
 feed-requires c κs =
-    let u = c .before .before .before .before in
-    let l = u .before .before .before in
-    let s = l .before .before .before .before in
-    rw (c .before .new .ensures, sub-zero _)
-    (draw-asks _ _ _ _ _ _ _ (s .pre) _ _ _ (u .before .before .loop-test .taken) (l .loop .inv .1) _ _ (rw (u .before .ahead .ensures) at (u .run .ensures)) (c .before .before .before .lesser .ensures))
+    let u = c .before .before in
+    let t = u .before .before .before in
+    let w = t .before .before in
+    rw (sub-zero _)
+    (draw-asks _ _ _ _ _ _ _ (w .before .before .before .before .before .before .pre) _ (first w) _ (w .walk2 .ensures) _ _ _ _ (t .loop-test .taken) (t .before .loop .inv)
+    _ (u .before .before .ready .ensures) _ _ (u .before .run .ensures) (u .lesser .ensures))
+
+forward-requires : tie.Need-forward-requires Inv-loop μ-loop
+forward-requires c κs =
+    let u = c .before .before .before .before .before in
+    let s = u .before .before .before .before .before .before .before .before .before .before .before in
+    (some u .1, omega (arith, u .before .before .ready .ensures .stands .inside _ (s .pre .placed)))
 
 add-done : tie.Need-add-done Inv-loop μ-loop
 add-done c =
-    let u = c .before .before .before .before .before .before .before in
-    omega (arith, c .before .before .before .before .before .before .lesser .ensures, u .before .before .loop-test .taken)
+    let u = c .before .before .before .before .before .before in
+    let s = u .before .before .before .before .before .before .before .before .before .before .before in
+    omega (arith, u .lesser .ensures, u .before .before .before .loop-test .taken, s .good)
 
 loop-less : tie.Need-loop-less Inv-loop μ-loop
-loop-less c =
-    let u = c .before .before .before .before .before .before .before in
-    let l = u .before .before .before in
-    let s = l .before .before .before .before in
-    let e = c .before .before .before .before .before .before .lesser .ensures in
-    let some = draw-some _ _ _ _ _ _ _ (s .pre) _ _ _ (u .before .before .loop-test .taken) (l .loop .inv .1) _ _ (rw (u .before .ahead .ensures) at (u .run .ensures)) e in
-    omega arith
+loop-less c = omega (arith, some (c .before .before .before .before .before .before) .0, some (c .before .before .before .before .before .before) .2)
 
 loop-again : tie.Need-loop-again Inv-loop μ-loop
 loop-again c =
-    let u = c .before .before .before .before .before .before .before in
-    let l = u .before .before .before in
-    let s = l .before .before .before .before in
-    let e = c .before .before .before .before .before .before .lesser .ensures in (
-      omega (arith, e, u .before .before .loop-test .taken),
-      draw-turn _ _ _ _ _ _ _ (s .pre) _ _ _ (u .before .before .loop-test .taken) (l .loop .inv .1) _ _ (rw (u .before .ahead .ensures) at (u .run .ensures)) e _ _
-          (rw (c .before .before .before .before .new .ensures, sub-zero _) at (c .before .before .feed .ensures)),
-    )
+    let u = c .before .before .before .before .before .before in
+    let t = u .before .before .before in
+    let w = t .before .before in
+    rw (c .forward .ensures)
+    (draw-turn _ _ _ _ _ _ _ (w .before .before .before .before .before .before .pre) _ (first w) _ (w .walk2 .ensures) _ _ _ _ (t .loop-test .taken) (t .before .loop .inv)
+    _ (u .before .before .ready .ensures) _ _ (u .before .run .ensures) (u .lesser .ensures) _ _ (rw (sub-zero _) at (c .before .before .before .feed .ensures)))
 
 same-length : tie.Need-same-length Inv-loop μ-loop
-same-length c = c .before .loop .inv .1 .size
+same-length c = c .before .before .loop .inv .going .storing .size
 
 returns : tie.Need-returns Inv-loop μ-loop
 returns c =
-    let all : c .before .loop .done ≡ c .before .before .before .before .before .args .n = omega arith in
-    draw-end _ _ _ _ _ _ _ (c .before .before .before .before .before .pre) _ _ _ all (c .before .loop .inv .1)
+    let l = c .before .before in
+    let w = l .before in
+    let s = w .before .before .before .before .before .before in
+    let all : l .loop .done ≡ s .args .n = omega (arith, l .loop .inv .most, c .before .loop-test .left) in
+    draw-end _ _ _ _ _ _ _ (s .pre) _ (first w) _ (w .walk2 .ensures) _ _ _ _ all (l .loop .inv)
 
 pub draw-spec : {M : Type 1} → statement M
 draw-spec =
@@ -98,16 +127,19 @@ draw-spec =
     Inv-loop
     μ-loop
     begin-requires
+    new-requires
+    walk-requires
+    walk-requires-2
     loop-holds
-    ahead-requires
+    ready-requires
     run-requires
     sub-lesser
     lesser-requires
-    new-requires
     sub-feed
     part-feed-start
     part-feed-end
     feed-requires
+    forward-requires
     add-done
     loop-less
     loop-again
