@@ -6,21 +6,21 @@ use Prim.Native.Nat.{ℕ, zero, suc, _+_, _*_, _-_, _/_, _%_, _^_, _<_, _≤_, m
 use native.Mathlib.Nat.{zero-add, zero-mul, suc-mul, mul-comm, mul-le-mul, mul-le-mul-right, mod-lt, div-add-mod', div-lt-iff-lt-mul}
 use native.Mathlib.Numerals.{add-one}
 use native.Mathlib.Omega.{arith}
-use borrow.Author.Tests.{lt-ltb, le-ltb, ltb-true, ltb-false, eq-eqb, ne-eqb, eqb-false}
-use lib.Dec.{ltb, eqb}
+use borrow.Author.Tests.{lt-ltb, le-ltb, ltb-true, ltb-false, leb-true, leb-false, eq-eqb, ne-eqb, eqb-false}
+use lib.Dec.{ltb, leb, eqb}
 use lib.ListN.{length, take, drop, getD, length-append, length-take, length-map, drop-of-length-le, List·getD-append}
 use lib.Seq.{length-take-le, getD-take, getD-append-add}
 use Rattle.layout.specs.declared.Entry.{Entry}
 use Rattle.layout.specs.declared.Layout.{Layout}
 use Rattle.layout.specs.declared.answer.Verdict.the-variants.{Sound, Malformed, Outside, Overlapping}
 use Rattle.layout.specs.declared.answer.Extent.{Extent}
-use Rattle.layout.specs.Pieces.{Piece, end, piece, inUse, repeats, pieces, total, from, placesOf, places}
+use Rattle.layout.specs.Pieces.{Piece, end, piece, inUse, repeats, pieces, span, total, from, placesOf, places}
 use Rattle.layout.specs.Moves.{Within, Placed, Distinct, Below}
-use Rattle.layout.specs.Answers.{someCountZero, malformed, someBeyond, share, sharesWith, someShare, verdictOn, fits}
+use Rattle.layout.specs.Answers.{someCountZero, miscounted, malformed, someBeyond, share, sharesWith, someShare, verdictOn, fits}
 use Rattle.layout.specs.Steps.{none, Shaped, Fits, Spans, nowhere}
-use Rattle.layout.proofs.PieceLaws.{length-from, getD-from}
+use Rattle.layout.proofs.PieceLaws.{size-repeats, length-from, getD-from}
 
-or-true : (a : Bool) → a || true ≡ true
+pub or-true : (a : Bool) → a || true ≡ true
 or-true true = refl
 or-true false = refl
 
@@ -130,15 +130,15 @@ beyond-last n es r m = rw add-one (go r m)
         ∙ both (someBeyond n (map (piece r) es)) (someBeyond n (map (piece (suc r + m)) es)) (λ t. beyond-later n r (suc r + m) es (omega arith) t))
 
 -- so does it for a layout
-pub beyond-pieces : (n : ℕ) (l : Layout) → Shaped l → someBeyond n (map (piece (l .repeat - 1)) (inUse l)) ≡ someBeyond n (pieces l)
-beyond-pieces n l s =
+pub beyond-pieces : (n : ℕ) (l : Layout) → 0 < l .repeat → someBeyond n (map (piece (l .repeat - 1)) (inUse l)) ≡ someBeyond n (pieces l)
+beyond-pieces n l h =
     let e : l .repeat - 1 + 1 ≡ l .repeat = omega arith in
     sym (ap (λ (r : ℕ). someBeyond n (map (piece r) (inUse l))) (zero-add (l .repeat - 1)))
     ∙ sym (beyond-last n (inUse l) 0 (l .repeat - 1))
     ∙ ap (λ (m : ℕ). someBeyond n (repeats (inUse l) 0 m)) e
 
-pub few-repeats : {l : Layout} → Shaped l → l .repeat ≤ 1024
-few-repeats {l} s = omega (arith, mul-le-mul-right (l .repeat) (s .some))
+pub few-repeats : (u r : ℕ) → 0 < u → u * r ≤ 1024 → r ≤ 1024
+few-repeats u r h f = omega (arith, mul-le-mul-right r h)
 
 -- a turn that finds such a piece, a turn that passes one, and the end
 pub beyond-here :
@@ -312,21 +312,21 @@ counted [] e i h = absurd (omega arith)
 counted (x ∷ es) e zero h = positive (x .count) (or-false (eqb (x .count) 0) (someCountZero es) e .0)
 counted (x ∷ es) e (suc i) h = counted es (or-false (eqb (x .count) 0) (someCountZero es) e .1) i (omega arith)
 
+-- what 5 leaves of the numbers of entries and repeats
+pub numbered : (u r : ℕ) → miscounted u r ≡ false → (0 < u) × (u ≤ 16) × (0 < r) × (u * r ≤ 1024)
+numbered u r h =
+    let a = or-false (eqb u 0 || ltb 16 u || eqb r 0) (ltb 1024 (u * r)) h in
+    let b = or-false (eqb u 0 || ltb 16 u) (eqb r 0) (a .0) in
+    let c = or-false (eqb u 0) (ltb 16 u) (b .0) in
+    (positive u (c .0), ltb-false 16 u (c .1), positive r (b .1), ltb-false 1024 (u * r) (a .1))
+
 -- what 5 leaves
 pub shaped : (l : Layout) → malformed l ≡ false → Shaped l
 unfolding malformed
 shaped l h =
-    let a = or-false (eqb (l .used) 0) _ h in
-    let b = or-false (ltb 16 (l .used)) _ (a .1) in
-    let c = or-false (eqb (l .repeat) 0) _ (b .1) in
-    let d = or-false (someCountZero (inUse l)) (ltb 1024 (l .used * l .repeat)) (c .1) in
-    record {
-      some = positive (l .used) (a .0);
-      used = ltb-false 16 (l .used) (b .0);
-      repeat = positive (l .repeat) (c .0);
-      few = ltb-false 1024 (l .used * l .repeat) (d .1);
-      counts = counted (inUse l) (d .0);
-    }
+    let a = or-false (miscounted (l .used) (l .repeat)) (someCountZero (inUse l)) h in
+    let n = numbered (l .used) (l .repeat) (a .0) in
+    record { some = n .0; used = n .1; repeat = n .2; few = n .3; counts = counted (inUse l) (a .1) }
 
 verdict-sound :
     (a b c : Bool)
@@ -350,6 +350,46 @@ fits-told l n h =
     let a = none-of-three (malformed l) (someBeyond n (pieces l)) (ltb n (total l)) h in
     let s = shaped l (a .0) in
     record { shaped = s; placed = record { used = s .used; within = beyond-within n (pieces l) (a .1) }; small = ltb-false n (total l) (a .2) }
+
+-- a repeat without a byte has an empty entry
+span-none : (es : List Entry) → 0 < length es → span es ≡ 0 → someCountZero es ≡ true
+unfolding span someCountZero
+span-none [] h e = absurd (omega arith)
+span-none (x ∷ es) h e = rw (eq-eqb (x .count) 0 (omega arith))
+
+at-most : (a b : ℕ) → not (ltb b a) ≡ leb a b
+at-most a b = go (leb a b) refl
+  where
+    go : (t : Bool) → leb a b ≡ t → not (ltb b a) ≡ t
+    go true e = rw (le-ltb b a (leb-true a b e))
+    go false e = rw (lt-ltb b a (leb-false a b e))
+
+-- the walk that measures a layout finds all that is wrong with it but its total
+module _ (l : Layout) (n s : ℕ) (e : s ≡ cond (someCountZero (inUse l) || someBeyond n (pieces l)) 0 (span (inUse l))) where
+  pub fits-not : 0 < length (inUse l) → s ≡ 0 → fits l n ≡ false
+  unfolding fits malformed
+  fits-not h z = go (miscounted (l .used) (l .repeat)) (someCountZero (inUse l)) (someBeyond n (pieces l)) (span-none (inUse l) h) (sym e ∙ z)
+    where
+      go : (m a b : Bool) → (span (inUse l) ≡ 0 → a ≡ true) → cond (a || b) 0 (span (inUse l)) ≡ 0 → not ((m || a) || (b || ltb n (total l))) ≡ false
+      go true a b f z = refl
+      go false true b f z = refl
+      go false false true f z = refl
+      go false false false f z =
+          let t = f z in
+          let y : _≡_ {A = ℕ} 0 1 = cc in
+          absurd (omega arith)
+
+  pub fits-total : miscounted (l .used) (l .repeat) ≡ false → (s ≡ 0 → ⊥) → fits l n ≡ leb (l .repeat * s) n
+  unfolding fits malformed
+  fits-total m h = rw e (go (miscounted (l .used) (l .repeat)) (someCountZero (inUse l)) (someBeyond n (pieces l)) m (rw e at h))
+    where
+      go :
+          (m a b : Bool) → m ≡ false → (cond (a || b) 0 (span (inUse l)) ≡ 0 → ⊥)
+          → not ((m || a) || (b || ltb n (total l))) ≡ leb (l .repeat * cond (a || b) 0 (span (inUse l))) n
+      go true a b m h = let z : _≡_ {A = ℕ} 0 1 = cc in absurd (omega arith)
+      go false true b m h = absurd (h refl)
+      go false false true m h = absurd (h refl)
+      go false false false m h = rw (size-repeats (inUse l) 0 (l .repeat)) (at-most (l .repeat * span (inUse l)) n)
 
 -- none of the three holds of a sound layout
 pub sound : (l : Layout) (n : ℕ) → verdictOn l n ≡ Sound → (malformed l ≡ false) × (someBeyond n (pieces l) ≡ false) × (someShare (pieces l) ≡ false)

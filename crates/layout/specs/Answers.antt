@@ -14,11 +14,13 @@ unfoldable pub someCountZero : List Entry → Bool
 someCountZero [] = false
 someCountZero (e ∷ es) = eqb (e .count) 0 || someCountZero es
 
--- 5: entries not 1 to 16, repeat 0, a count 0, or entries × repeat above 1,024
+-- entries not 1 to 16, repeat 0, or entries × repeat above 1,024
+abbrev pub miscounted : ℕ → ℕ → Bool
+miscounted used repeat = eqb used 0 || ltb 16 used || eqb repeat 0 || ltb 1024 (used * repeat)
+
+-- 5: the layout is miscounted so, or a count is 0
 unfoldable pub malformed : Layout → Bool
-malformed l =
-    eqb (l .used) 0 || (ltb 16 (l .used) ||
-    (eqb (l .repeat) 0 || (someCountZero (inUse l) || ltb 1024 (l .used * l .repeat))))
+malformed l = miscounted (l .used) (l .repeat) || someCountZero (inUse l)
 
 -- 6: a piece ends beyond the memory of n bytes; the end is an exact sum
 unfoldable pub someBeyond : ℕ → List Piece → Bool

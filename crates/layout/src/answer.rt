@@ -1,8 +1,9 @@
 // Answers 5, 6 and 7.
 ghost use mathlib.Core.Path.{_≡_};
+ghost use mathlib.Core.Bool.{_||_, cond};
 ghost use Prim.Native.Nat.{_*_, _<_, _≤_, _-_, _^_, min, max};
 ghost use lib.Dec.{ltb};
-ghost use Rattle.layout.specs.Pieces.{end, inUse, piece, pieces};
+ghost use Rattle.layout.specs.Pieces.{end, inUse, piece, pieces, span};
 ghost use Rattle.layout.specs.Moves.{Within};
 ghost use Rattle.layout.specs.Answers as answers;
 ghost use Rattle.layout.specs.Steps.{Shaped, Spans};
@@ -11,7 +12,6 @@ use crate::Layout;
 use crate::numbers::greater;
 use crate::numbers::lesser;
 use crate::places::begin;
-use crate::places::total;
 
 // What is wrong with a layout, in 01's order, or nothing.
 pub enum Verdict {
@@ -46,22 +46,20 @@ fn some_empty(l: Layout) -> bool
     false
 }
 
+// Entries not 1 to 16, repeat 0, or too many pieces.
+fn miscounted(used: u32, repeat: u32) -> bool
+    ensures { λ r. ⌜ r ≡ answers.miscounted used repeat ⌝ }
+{
+    (used == 0) | (16 < used) | (repeat == 0) | (1024 < used as u64 * repeat as u64)
+}
+
 fn malformed(l: Layout) -> bool
     ensures { λ r. ⌜ r ≡ answers.malformed l ⌝ }
 {
-    if l.used == 0 {
+    if miscounted(l.used, l.repeat) {
         return true;
     }
-    if 16 < l.used {
-        return true;
-    }
-    if l.repeat == 0 {
-        return true;
-    }
-    if some_empty(l) {
-        return true;
-    }
-    1024 < l.used as u64 * l.repeat as u64
+    some_empty(l)
 }
 
 // Whether repeat r of an entry ends beyond the memory. The start is tested before anything is added to it.
@@ -140,21 +138,43 @@ fn overlapping(l: Layout) -> bool
     met
 }
 
+// The bytes of a repeat, or 0 where an entry is empty or a piece ends beyond the memory. One walk for both tests and the
+// sum: each walk copies the layout.
+fn measured(l: Layout, memory_length: u64) -> u64
+    requires { ⌜ (0 < l .used) × (l .used ≤ 16) × (0 < l .repeat) × (l .used * l .repeat ≤ 1024) ⌝ }
+    ensures { λ r. ⌜ (r ≡ cond (answers.someCountZero (inUse l) || answers.someBeyond «memory_length» (pieces l)) 0 (span (inUse l))) × (r ≤ l .used * 4294967295) ⌝ }
+{
+    let used = l.used as usize;
+    let last = (l.repeat - 1) as u64;
+    let mut sum: u64 = 0;
+    let mut i: usize = 0;
+    while i < used {
+        let e = l.entries[i];
+        if e.count == 0 {
+            return 0;
+        }
+        if beyond(e, last, memory_length) {
+            return 0;
+        }
+        sum += e.count as u64;
+        i += 1;
+    }
+    sum
+}
+
 // Whether the moves can run over the layout in so many bytes of memory: judge's tests without the search for an
 // overlap, whose time grows with the square of the pieces, and that the total is no more than the memory.
 pub fn fits(l: Layout, memory_length: u64) -> bool
     ensures { λ r. ⌜ r ≡ answers.fits l «memory_length» ⌝ }
 {
-    if malformed(l) {
+    if miscounted(l.used, l.repeat) {
         return false;
     }
-    if outside(l, memory_length) {
+    let span = measured(l, memory_length);
+    if span == 0 {
         return false;
     }
-    if memory_length < total(l) {
-        return false;
-    }
-    true
+    l.repeat as u64 * span <= memory_length
 }
 
 // The answer that 01's table gives for this layout over a memory of so many bytes.

@@ -1,57 +1,59 @@
--- Each return follows the tests before it.
+-- The numbers first, then what the walk measures.
 use mathlib.Core.Path.{_≡_, sym, _∙_}
 use mathlib.Core.Bool.{false}
+use native.Mathlib.Omega.{arith}
 use borrow.Author.Needs.{needs}
-use borrow.Author.Tests.{lt-ltb, le-ltb}
-use Rattle.layout.specs.Pieces.{pieces}
-use Rattle.layout.specs.Answers.{malformed, someBeyond, fits}
-use Rattle.layout.proofs.AnswerLaws.{shaped}
+use lib.ListN.{length-map}
+use Rattle.layout.specs.Answers.{miscounted, malformed, fits}
+use Rattle.layout.proofs.PieceLaws.{span-fits}
+use Rattle.layout.proofs.AnswerLaws.{numbered, length-in-use, fits-not, fits-total}
 use Rattle.layout.proofs.answer.fits.Statement.{statement}
 use Rattle.layout.proofs.answer.fits.Tie as tie
 
-malformed-requires : tie.Need-malformed-requires
-malformed-requires c κs = search needs
+miscounted-requires : tie.Need-miscounted-requires
+miscounted-requires c κs = search needs
 
 returns : tie.Need-returns
-unfolding fits
-returns c = rw (sym (c .before .malformed .ensures) ∙ c .if1 .taken)
+unfolding fits malformed
+returns c = rw (sym (c .before .miscounted .ensures) ∙ c .if1 .taken)
 
-outside-requires : tie.Need-outside-requires
-outside-requires c κs = shaped (c .before .before .args .l) (sym (c .before .malformed .ensures) ∙ c .if1 .left)
+-- past the first test the numbers are good
+good : (e : tie.Else1) → miscounted (e .before .before .args .l .used) (e .before .before .args .l .repeat) ≡ false
+good e = sym (e .before .miscounted .ensures) ∙ e .if1 .left
+
+measured-requires : tie.Need-measured-requires
+measured-requires c κs = numbered _ _ (good c)
 
 returns-2 : tie.Need-returns-2
-unfolding fits
-returns-2 c = rw (sym (c .before .before .before .malformed .ensures) ∙ c .before .before .if1 .left, sym (c .before .outside .ensures) ∙ c .if2 .taken)
+returns-2 c =
+    let s = c .before .before .before .before in
+    let n = numbered (s .args .l .used) (s .args .l .repeat) (good (c .before .before)) in
+    let len = length-in-use (s .args .l) (simp length-map at (s .good .0 .1 .1 .0 .1 .0 .1)) (n .1) in
+    sym (fits-not (s .args .l) (s .args .memory-length) (c .before .measured .result) (c .before .measured .ensures .0) (omega arith) (c .if2 .taken))
 
--- past the second test neither 5 nor 6 applies
-neither : (e : tie.Else2) → let a = e .before .before .before .before .args in (malformed (a .l) ≡ false) × (someBeyond (a .memory-length) (pieces (a .l)) ≡ false)
-neither e = (sym (e .before .before .before .malformed .ensures) ∙ e .before .before .if1 .left, sym (e .before .outside .ensures) ∙ e .if2 .left)
+cast-result : tie.Need-cast-result
+cast-result c = search needs
 
-total-requires : tie.Need-total-requires
-total-requires c κs =
-    let s = shaped (c .before .before .before .before .args .l) (neither c .0) in
-    (s .used, s .few)
+mul-result : tie.Need-mul-result
+mul-result c =
+    let e = c .before .before .before in
+    let l = e .before .before .args .l in
+    record { fits = span-fits (l .used) (l .repeat) (c .before .before .measured .result) (numbered (l .used) (l .repeat) (good e) .3) (c .before .before .measured .ensures .1) }
 
 returns-3 : tie.Need-returns-3
-unfolding fits
 returns-3 c =
-    let n = neither (c .before .before) in
-    rw (n .0, n .1, ← c .before .total .ensures, lt-ltb _ _ (c .if3 .taken))
-
-returns-4 : tie.Need-returns-4
-unfolding fits
-returns-4 c =
-    let n = neither (c .before .before) in
-    rw (n .0, n .1, ← c .before .total .ensures, le-ltb _ _ (c .if3 .left))
+    let e = c .before .before .before in
+    let a = e .before .before .args in
+    sym (fits-total (a .l) (a .memory-length) (c .before .before .measured .result) (c .before .before .measured .ensures .0) (good e) (c .before .if2 .left))
 
 pub fits-spec : {M : Type 1} → statement M
 fits-spec =
     tie.close
     (tie.spec
-    malformed-requires
+    miscounted-requires
     returns
-    outside-requires
+    measured-requires
     returns-2
-    total-requires
-    returns-3
-    returns-4)
+    cast-result
+    mul-result
+    returns-3)

@@ -28,7 +28,7 @@ sub-last : tie.Need-sub-last Inv-loop μ-loop
 sub-last c = search needs
 
 loop-holds : tie.Need-loop-holds Inv-loop μ-loop
-loop-holds c = (search needs, beyond-pieces (c .args .memory-length) (c .args .t1) (c .pre))
+loop-holds c = (search needs, beyond-pieces (c .args .memory-length) (c .args .t1) (c .pre .repeat))
 
 mul-e : tie.Need-mul-e Inv-loop μ-loop
 mul-e c = search needs
@@ -37,7 +37,9 @@ element-copy-out-e : tie.Need-element-copy-out-e Inv-loop μ-loop
 element-copy-out-e c = search needs
 
 beyond-requires : tie.Need-beyond-requires Inv-loop μ-loop
-beyond-requires c κs = omega (arith, few-repeats (c .before .before .before .pre))
+beyond-requires c κs =
+    let p = c .before .before .before .pre in
+    omega (arith, few-repeats _ _ (p .some) (p .few))
 
 returns : tie.Need-returns Inv-loop μ-loop
 returns c =
