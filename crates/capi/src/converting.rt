@@ -82,7 +82,7 @@ pub(crate) fn flag(b: bool) -> u32
     if b { 1 } else { 0 }
 }
 
-fn signature_of(r: SignatureRecord) -> Signature
+pub(crate) fn signature_of(r: SignatureRecord) -> Signature
     ensures { λ s. ⌜ s ≡ records.signatureIn r ⌝ }
 {
     let memory = r.memory;

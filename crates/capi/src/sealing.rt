@@ -35,7 +35,14 @@ pub(crate) fn is_key(r: KeyRecord) -> bool
     ensures { λ b. ⌜ b ≡ records.isKey r ⌝ }
 {
     let whole = (r.seal == KEY_SEAL) & is_flag(r.configured) & (r.signature.spare == 0);
-    whole & proper(converting::key_numbers(r)) & key::usable(converting::key_of(r))
+    whole
+        & proper(converting::key_numbers(r))
+        & key::usable(
+            r.configured == 1,
+            r.memory_length,
+            converting::signature_of(r.signature),
+            r.layout,
+        )
 }
 
 pub(crate) fn is_session(r: SessionRecord) -> bool

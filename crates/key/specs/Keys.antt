@@ -76,11 +76,13 @@ abbrev pub accepts : Outcome → Bool
 accepts Done = true
 accepts (Refused r) = false
 
--- whether a transfer may run on a key: if it is configured, its memory is within the limit, and its signature and layout are ones to work by
+-- if a key is configured, its memory is within the limit, and its signature and layout are ones to work by
+abbrev pub usableWith : Bool → ℕ → Signature → Layout → Bool
+usableWith configured n s l = not configured || (not (ltb 16777216 n) && (accepts (signatureAnswer s) && fits l n))
+
+-- whether a transfer may run on a key: its slot does not matter
 unfoldable pub usable : Key → Bool
-usable k =
-    not (k .configured) || (not (ltb 16777216 (k .«memory_length»)) &&
-    (accepts (signatureAnswer (k .signature)) && fits (k .layout) (k .«memory_length»)))
+usable k = usableWith (k .configured) (k .«memory_length») (k .signature) (k .layout)
 
 -- The premise of the calls. Every key from these calls is usable (`proofs/Laws`, came-usable).
 abbrev pub Usable : Key → Type 0

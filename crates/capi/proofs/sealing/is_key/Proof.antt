@@ -1,3 +1,4 @@
+use Rattle.key.specs.Keys.{usable}
 use Rattle.capi.specs.Records.{isKey}
 use borrow.Author.Needs.{needs}
 use Rattle.capi.proofs.sealing.is_key.Statement.{statement}
@@ -12,15 +13,15 @@ key-numbers-requires c κs = search needs
 proper-requires : tie.Need-proper-requires
 proper-requires c κs = search needs
 
-key-of-requires : tie.Need-key-of-requires
-key-of-requires c κs = search needs
+signature-of-requires : tie.Need-signature-of-requires
+signature-of-requires c κs = search needs
 
 usable-requires : tie.Need-usable-requires
 usable-requires c κs = search needs
 
 returns : tie.Need-returns
-unfolding isKey
-returns c = rw (c .usable .ensures, c .before .key-of .ensures, c .before .before .proper .ensures, c .before .before .before .key-numbers .ensures, c .before .before .before .before .before .is-flag .ensures)
+unfolding isKey usable
+returns c = rw (c .usable .ensures, c .before .signature-of .ensures, c .before .before .before .proper .ensures, c .before .before .before .before .key-numbers .ensures, c .before .before .before .before .before .before .is-flag .ensures)
 
 pub is-key-spec : {M : Type 1} → statement M
 is-key-spec =
@@ -29,6 +30,6 @@ is-key-spec =
     is-flag-requires
     key-numbers-requires
     proper-requires
-    key-of-requires
+    signature-of-requires
     usable-requires
     returns)

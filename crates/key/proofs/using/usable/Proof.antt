@@ -2,17 +2,14 @@
 use mathlib.Core.Path.{sym, _∙_}
 use borrow.Author.Needs.{needs}
 use borrow.Author.Tests.{lt-ltb, le-ltb}
-use Rattle.key.specs.Keys.{usable}
 use Rattle.key.proofs.using.usable.Statement.{statement}
 use Rattle.key.proofs.using.usable.Tie as tie
 
 returns : tie.Need-returns
-unfolding usable
 returns c = rw (c .if1 .taken)
 
 returns-2 : tie.Need-returns-2
-unfolding usable
-returns-2 c = rw (c .before .before .if1 .left, lt-ltb _ _ (c .if2 .taken))
+returns-2 c = rw (c .before .if1 .left, lt-ltb _ _ (c .if2 .taken))
 
 signature-answer-requires : tie.Need-signature-answer-requires
 signature-answer-requires c κs = search needs
@@ -27,16 +24,14 @@ enum-told-2 : tie.Need-enum-told-2
 enum-told-2 c = search needs
 
 returns-3 : tie.Need-returns-3
-unfolding usable
 returns-3 c =
     let a = c .before .before .before in
-    rw (a .before .before .before .if1 .left, le-ltb _ _ (a .before .if2 .left), sym (a .signature-answer .ensures) ∙ c .before .enum-told .given .1) (c .fits2 .ensures)
+    rw (a .before .before .if1 .left, le-ltb _ _ (a .before .if2 .left), sym (a .signature-answer .ensures) ∙ c .before .enum-told .given .1) (c .fits2 .ensures)
 
 returns-4 : tie.Need-returns-4
-unfolding usable
 returns-4 c =
     let a = c .before .before in
-    rw (a .before .before .before .if1 .left, le-ltb _ _ (a .before .if2 .left), sym (a .signature-answer .ensures) ∙ c .enum-told2 .given .1)
+    rw (a .before .before .if1 .left, le-ltb _ _ (a .before .if2 .left), sym (a .signature-answer .ensures) ∙ c .enum-told2 .given .1)
 
 pub usable-spec : {M : Type 1} → statement M
 usable-spec =
