@@ -1,6 +1,7 @@
 -- Records there and back, and what the test of a record finds. Assumes nothing.
 use mathlib.Core.Path.{_≡_, refl, sym}
 use mathlib.Core.Bool.{Bool, true, false, _&&_}
+use mathlib.Core.List.{List}
 use Prim.Native.Nat.{ℕ}
 use native.Mathlib.Omega.{arith}
 use lib.Dec.{eqb}
@@ -11,10 +12,17 @@ use Rattle.field.specs.declared.Part.the-variants.{Guard, Application, Referenc
 use Rattle.key.specs.declared.Key.{Key}
 use Rattle.key.specs.declared.Slot.{Slot}
 use Rattle.key.specs.declared.Slot.the-variants.{Empty, Holding}
-use Rattle.key.specs.Keys.{checking, usable, CameFromCalls, Usable}
+use Rattle.key.specs.declared.Outcome.{Outcome}
+use Rattle.key.specs.declared.Outcome.the-variants.{Done, Refused}
+use Rattle.key.specs.Keys.{checking, withSlot, usable, CameFromCalls, Usable}
+use Rattle.key.specs.Streams.{streamLength}
 use Rattle.key.proofs.Laws.{came-usable}
+use Rattle.engine.specs.declared.Progress.{Progress}
+use Rattle.engine.specs.Feeding.{fed}
+use Rattle.transfer.specs.Rules.{sendRule, receiveRule, errorIn}
+use Rattle.transfer.specs.Transferring.{memoryStream, wireStream, answered, answerOf, sending, receiving}
 use Rattle.packets.specs.declared.Session.{Session}
-use Rattle.packets.specs.Sessions.{underway, Underway, SessionFromCalls}
+use Rattle.packets.specs.Sessions.{ruleOf, underway, Underway, SessionFromCalls, packetAnswer, further, packedBy, packing}
 use Rattle.packets.proofs.PacketLaws.{underway-told, underway-passes, came-underway}
 use Rattle.capi.specs.declared.KeyRecord.{KeyRecord}
 use Rattle.capi.specs.declared.SessionRecord.{SessionRecord}
@@ -99,6 +107,24 @@ key-back r h =
     let t = key-told r h in
     rw (sym (t .numbers), ← t .configured, sym (t .seal), sym (t .spare)) refl
 
+-- A transfer changes nothing of a key but its slot.
+slot-changed : (o : Outcome) (k : Key) (taken written : ℕ) (e : Slot) → let t = answered o k taken written e in t .key ≡ withSlot k (t .key .slot)
+slot-changed Done k taken written e = refl
+slot-changed (Refused r) k taken written e = refl
+
+module _ (k : Key) (memory wire : List ℕ) (x count : ℕ) where
+  pub sent-key : let t = sending k memory wire x count in t .key ≡ withSlot k (t .key .slot)
+  unfolding sending
+  sent-key =
+      slot-changed (answerOf k memory wire x count) k (streamLength (k .signature .memory) count) (streamLength (k .signature .wire) count)
+      (errorIn (sendRule (k .signature)) (memoryStream k memory x count) count)
+
+  pub received-key : let t = receiving k memory wire x count in t .key ≡ withSlot k (t .key .slot)
+  unfolding receiving
+  received-key =
+      slot-changed (answerOf k memory wire x count) k (streamLength (k .signature .wire) count) (streamLength (k .signature .memory) count)
+      (errorIn (receiveRule (k .signature)) (wireStream k wire count) count)
+
 -- What came from these calls always passes.
 pub key-passes : (k : Key) → CameFromCalls k → isKey (keyRecord k) ≡ true
 unfolding isKey
@@ -131,6 +157,15 @@ session-back r h =
       ← o,
       sym (eqb-true (r .seal) sessionSeal (f .0)),
     ) refl
+
+-- A packet changes nothing of a session but its progress.
+pub packed-session : (s : Session) (n : ℕ) (bytes : List ℕ) → let p = packing s n bytes in p .session ≡ further s (p .session .progress)
+unfolding packing
+packed-session s n bytes = go (packetAnswer s n (length bytes)) (fed (ruleOf s) (s .progress) bytes)
+  where
+    go : (o : Outcome) (p : Progress) → packedBy o s p .session ≡ further s (packedBy o s p .session .progress)
+    go Done p = refl
+    go (Refused r) p = refl
 
 pub session-passes : (s : Session) → SessionFromCalls s → isSession (sessionRecord s) ≡ true
 unfolding isSession

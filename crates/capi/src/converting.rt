@@ -1,5 +1,7 @@
 // Records into keys and sessions, and back.
 ghost use mathlib.Core.Path.{_≡_};
+ghost use Rattle.key.specs.Keys.{withSlot};
+ghost use Rattle.packets.specs.Sessions.{further};
 ghost use Rattle.capi.specs.Records as records;
 use crate::ConfigurationRecord;
 use crate::KEY_SEAL;
@@ -165,6 +167,20 @@ pub(crate) fn key_record(k: Key) -> KeyRecord
     }
 }
 
+// The record with another error. A transfer changes nothing else, and turning the whole key back would copy it again.
+pub(crate) fn with_slot(r: KeyRecord, slot: Slot) -> KeyRecord
+    requires { ⌜ records.keyRecord (records.keyIn r) ≡ r ⌝ }
+    ensures { λ k. ⌜ k ≡ records.keyRecord (withSlot (records.keyIn r) slot) ⌝ }
+{
+    let n = numbers_of(slot);
+    let mut k = r;
+    k.error_type = n.kind;
+    k.error_actual = n.actual;
+    k.error_expected = n.expected;
+    k.error_offset = n.offset;
+    k
+}
+
 pub(crate) fn session_numbers(r: SessionRecord) -> Numbers
     ensures { λ n. ⌜ n ≡ records.sessionNumbers r ⌝ }
 {
@@ -213,6 +229,35 @@ pub(crate) fn session_of(r: SessionRecord) -> Session
         length: r.length,
         progress,
     }
+}
+
+// The record with another progress, which is all that a packet changes.
+pub(crate) fn with_progress(r: SessionRecord, progress: Progress) -> SessionRecord
+    requires { ⌜ records.sessionRecord (records.sessionIn r) ≡ r ⌝ }
+    ensures { λ s. ⌜ s ≡ records.sessionRecord (further (records.sessionIn r) progress) ⌝ }
+{
+    let held = progress.held;
+    let slot = progress.slot;
+    let n = numbers_of(slot);
+    let input = progress.input;
+    let output = progress.output;
+    let in_guard = input.guard;
+    let out_guard = output.guard;
+    let mut s = r;
+    s.input_index = input.index;
+    s.input_at = input.at;
+    s.output_index = output.index;
+    s.output_at = output.at;
+    s.input_guard = in_guard.value;
+    s.output_guard = out_guard.value;
+    s.input_odd = flag(in_guard.odd);
+    s.output_odd = flag(out_guard.odd);
+    s.error_type = n.kind;
+    s.error_actual = n.actual;
+    s.error_expected = n.expected;
+    s.error_offset = n.offset;
+    s.held = held;
+    s
 }
 
 pub(crate) fn session_record(s: Session) -> SessionRecord

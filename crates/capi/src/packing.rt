@@ -14,6 +14,7 @@ use crate::converting::key_of;
 use crate::converting::key_record;
 use crate::converting::session_of;
 use crate::converting::session_record;
+use crate::converting::with_progress;
 use crate::sealing::is_key;
 use crate::sealing::is_session;
 use crate::transferring::wide;
@@ -104,8 +105,10 @@ pub extern "C" fn garoalva_packet(
     if is_session(session) {
         let p = packets::packet(session_of(session), memory, bytes);
         let outcome = p.outcome;
+        let after = p.session;
+        let progress = after.progress;
         return PackedRecord {
-            session: session_record(p.session),
+            session: with_progress(session, progress),
             answer: wide(key::number(outcome)),
             taken: p.taken,
             written: p.written,

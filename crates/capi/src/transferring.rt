@@ -1,8 +1,8 @@
 // The calls on a key.
 ghost use mathlib.Core.Path.{_≡_};
 ghost use lib.ListN.{length};
-ghost use Rattle.key.specs.Keys.{freshKey};
-ghost use Rattle.capi.specs.Records.{keyRecord};
+ghost use Rattle.key.specs.Keys.{freshKey, withSlot};
+ghost use Rattle.capi.specs.Records.{keyIn, keyRecord};
 ghost use Rattle.capi.specs.Border as border;
 use crate::CheckedRecord;
 use crate::ConfigurationRecord;
@@ -13,6 +13,7 @@ use crate::TransferredRecord;
 use crate::converting;
 use crate::converting::key_of;
 use crate::converting::key_record;
+use crate::converting::with_slot;
 use crate::sealing::is_key;
 use layout::LayoutOffset;
 use transfer::Transferred;
@@ -57,12 +58,16 @@ pub extern "C" fn garoalva_configure(
     }
 }
 
-fn transferred(t: Transferred) -> TransferredRecord
+// What a transfer on this record's key answered: all that it changes of the key is the slot.
+fn transferred(key: KeyRecord, t: Transferred) -> TransferredRecord
+    requires { ⌜ (keyRecord (keyIn key) ≡ key) × (t .key ≡ withSlot (keyIn key) (t .key .slot)) ⌝ }
     ensures { λ r. ⌜ r ≡ border.transferredRecord t ⌝ }
 {
     let outcome = t.outcome;
+    let after = t.key;
+    let slot = after.slot;
     TransferredRecord {
-        key: key_record(t.key),
+        key: with_slot(key, slot),
         answer: wide(key::number(outcome)),
         taken: t.taken,
         written: t.written,
@@ -93,7 +98,10 @@ pub extern "C" fn garoalva_send(
 {
     if is_key(key) {
         let x = LayoutOffset::new(offset);
-        return transferred(transfer::send(key_of(key), memory, wire, x, data_length));
+        return transferred(
+            key,
+            transfer::send(key_of(key), memory, wire, x, data_length),
+        );
     }
     not_a_key(key)
 }
@@ -111,7 +119,10 @@ pub extern "C" fn garoalva_receive(
 {
     if is_key(key) {
         let x = LayoutOffset::new(offset);
-        return transferred(transfer::receive(key_of(key), memory, wire, x, data_length));
+        return transferred(
+            key,
+            transfer::receive(key_of(key), memory, wire, x, data_length),
+        );
     }
     not_a_key(key)
 }

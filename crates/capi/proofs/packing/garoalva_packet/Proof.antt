@@ -1,9 +1,14 @@
-use mathlib.Core.Path.{refl, sym, _∙_}
+use mathlib.Core.Path.{_≡_, refl, sym, _∙_}
+use mathlib.Core.Bool.{true}
+use Rattle.capi.specs.Records.{isSession}
 use Rattle.capi.specs.Border.{packetAtBorder, packetMemoryAtBorder}
-use Rattle.capi.proofs.Laws.{session-told}
+use Rattle.capi.proofs.Laws.{session-told, session-back, packed-session}
 use borrow.Author.Needs.{needs}
 use Rattle.capi.proofs.packing.garoalva_packet.Statement.{statement}
 use Rattle.capi.proofs.packing.garoalva_packet.Tie as tie
+
+passes : (c : tie.Then1) → isSession (c .before .before .before .before .args .session) ≡ true
+passes c = sym (c .before .is-session .ensures .0) ∙ c .if1 .taken
 
 is-session-requires : tie.Need-is-session-requires
 is-session-requires c κs = search needs
@@ -12,10 +17,10 @@ session-of-requires : tie.Need-session-of-requires
 session-of-requires c κs = search needs
 
 packet-requires : tie.Need-packet-requires
-packet-requires c κs = rw (c .before .session-of .ensures) (session-told _ (sym (c .before .before .before .is-session .ensures .0) ∙ c .before .before .if1 .taken) (c .before .before .before .is-session .ensures .1))
+packet-requires c κs = rw (c .before .session-of .ensures) (session-told _ (passes (c .before .before)) (c .before .before .before .is-session .ensures .1))
 
-session-record-requires : tie.Need-session-record-requires
-session-record-requires c κs = search needs
+with-progress-requires : tie.Need-with-progress-requires
+with-progress-requires c κs = session-back _ (passes (c .before .before .before .before .before .before .before))
 
 number-requires : tie.Need-number-requires
 number-requires c κs = search needs
@@ -29,8 +34,8 @@ same-length c = search needs
 returns : tie.Need-returns
 unfolding packetAtBorder packetMemoryAtBorder
 returns c =
-    let p = c .before .before .before .before .before in
-    rw (c .wide .ensures, c .before .number .ensures, c .before .before .session-record .ensures, p .packet .ensures .0, p .before .before .session-of .ensures, sym (c .before .before .before .before .before .before .before .before .before .is-session .ensures .0) ∙ c .before .before .before .before .before .before .before .before .if1 .taken)
+    let p = c .before .before .before .before .before .before .before in
+    rw (c .wide .ensures, c .before .number .ensures, c .before .before .with-progress .ensures, p .packet .ensures .0, p .before .before .session-of .ensures, passes (p .before .before .before), packed-session)
     (refl, p .packet .ensures .1 ∙ rw (p .before .before .session-of .ensures))
 
 returns-2 : tie.Need-returns-2
@@ -44,7 +49,7 @@ garoalva-packet-spec =
     is-session-requires
     session-of-requires
     packet-requires
-    session-record-requires
+    with-progress-requires
     number-requires
     wide-requires
     same-length

@@ -2,8 +2,8 @@ use borrow.Author.Needs.{needs}
 use Rattle.capi.proofs.transferring.transferred.Statement.{statement}
 use Rattle.capi.proofs.transferring.transferred.Tie as tie
 
-key-record-requires : tie.Need-key-record-requires
-key-record-requires c κs = search needs
+with-slot-requires : tie.Need-with-slot-requires
+with-slot-requires c κs = search needs
 
 number-requires : tie.Need-number-requires
 number-requires c κs = search needs
@@ -12,7 +12,7 @@ wide-requires : tie.Need-wide-requires
 wide-requires c κs = search needs
 
 returns : tie.Need-returns
-returns c = rw (c .wide .ensures, c .before .number .ensures, c .before .before .key-record .ensures)
+returns c = rw (c .wide .ensures, c .before .number .ensures, c .before .before .with-slot .ensures, c .before .before .before .before .pre .1)
 
 pub transferred-spec : {M : Type 1} → statement M
-transferred-spec = tie.close (tie.spec key-record-requires number-requires wide-requires returns)
+transferred-spec = tie.close (tie.spec with-slot-requires number-requires wide-requires returns)
