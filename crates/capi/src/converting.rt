@@ -3,6 +3,7 @@ ghost use mathlib.Core.Path.{_≡_};
 ghost use Rattle.key.specs.Keys.{withSlot};
 ghost use Rattle.packets.specs.Sessions.{further};
 ghost use Rattle.capi.specs.Records as records;
+ghost use Rattle.capi.specs.Border as border;
 use crate::ConfigurationRecord;
 use crate::KEY_SEAL;
 use crate::KeyRecord;
@@ -233,7 +234,7 @@ pub(crate) fn session_of(r: SessionRecord) -> Session
 
 // The record with another progress, which is all that a packet changes.
 pub(crate) fn with_progress(r: SessionRecord, progress: Progress) -> SessionRecord
-    requires { ⌜ records.sessionRecord (records.sessionIn r) ≡ r ⌝ }
+    requires { ⌜ (r .seal ≡ records.sessionSeal) × (records.keyRecord (records.keyIn (r .key)) ≡ r .key) ⌝ }
     ensures { λ s. ⌜ s ≡ records.sessionRecord (further (records.sessionIn r) progress) ⌝ }
 {
     let held = progress.held;
@@ -260,36 +261,39 @@ pub(crate) fn with_progress(r: SessionRecord, progress: Progress) -> SessionReco
     s
 }
 
+// A record that is no session: it bears no seal.
+pub(crate) fn no_session(key: KeyRecord) -> SessionRecord
+    ensures { λ r. ⌜ r ≡ border.noSession key ⌝ }
+{
+    SessionRecord {
+        seal: 0,
+        key,
+        start: 0,
+        length: 0,
+        input_index: 0,
+        input_at: 0,
+        output_index: 0,
+        output_at: 0,
+        input_guard: 0,
+        output_guard: 0,
+        input_odd: 0,
+        output_odd: 0,
+        error_type: 0,
+        error_actual: 0,
+        error_expected: 0,
+        error_offset: 0,
+        held: [0; 8],
+    }
+}
+
 pub(crate) fn session_record(s: Session) -> SessionRecord
     ensures { λ r. ⌜ r ≡ records.sessionRecord s ⌝ }
 {
-    let key = key_record(s.key);
     let start = s.start;
     let progress = s.progress;
-    let held = progress.held;
-    let slot = progress.slot;
-    let n = numbers_of(slot);
-    let input = progress.input;
-    let output = progress.output;
-    let in_guard = input.guard;
-    let out_guard = output.guard;
-    SessionRecord {
-        seal: SESSION_SEAL,
-        key,
-        start: start.number(),
-        length: s.length,
-        input_index: input.index,
-        input_at: input.at,
-        output_index: output.index,
-        output_at: output.at,
-        input_guard: in_guard.value,
-        output_guard: out_guard.value,
-        input_odd: flag(in_guard.odd),
-        output_odd: flag(out_guard.odd),
-        error_type: n.kind,
-        error_actual: n.actual,
-        error_expected: n.expected,
-        error_offset: n.offset,
-        held,
-    }
+    let mut r = no_session(key_record(s.key));
+    r.seal = SESSION_SEAL;
+    r.start = start.number();
+    r.length = s.length;
+    with_progress(r, progress)
 }

@@ -12,6 +12,7 @@ use crate::PackedRecord;
 use crate::SessionRecord;
 use crate::converting::key_of;
 use crate::converting::key_record;
+use crate::converting::no_session;
 use crate::converting::session_of;
 use crate::converting::session_record;
 use crate::converting::with_progress;
@@ -22,31 +23,6 @@ use key::Outcome;
 use layout::LayoutOffset;
 use packets::Finished;
 use packets::Opened;
-
-// A record that is no session: it bears no seal.
-fn no_session(key: KeyRecord) -> SessionRecord
-    ensures { λ r. ⌜ r ≡ border.noSession key ⌝ }
-{
-    SessionRecord {
-        seal: 0,
-        key,
-        start: 0,
-        length: 0,
-        input_index: 0,
-        input_at: 0,
-        output_index: 0,
-        output_at: 0,
-        input_guard: 0,
-        output_guard: 0,
-        input_odd: 0,
-        output_odd: 0,
-        error_type: 0,
-        error_actual: 0,
-        error_expected: 0,
-        error_offset: 0,
-        held: [0; 8],
-    }
-}
 
 fn session_opened(o: Opened) -> SessionRecord
     ensures { λ r. ⌜ r ≡ border.sessionOpened (o .outcome) o ⌝ }

@@ -1,7 +1,5 @@
 -- The rest of the record is what its session gives back.
-use mathlib.Core.Path.{ap}
 use borrow.Author.Needs.{needs}
-use Rattle.capi.specs.declared.SessionRecord.{SessionRecord}
 use Rattle.capi.proofs.converting.with_progress.Statement.{statement}
 use Rattle.capi.proofs.converting.with_progress.Tie as tie
 
@@ -17,7 +15,7 @@ flag-requires-2 c κs = search needs
 returns : tie.Need-returns
 returns c =
     let h = c .before .before .before .before .before .before .before .before .pre in
-    rw (c .flag2 .ensures, c .before .flag .ensures, c .before .before .before .before .before .before .numbers-of .ensures, ap (λ (x : SessionRecord). x .seal) h, ap (λ (x : SessionRecord). x .key) h)
+    rw (c .flag2 .ensures, c .before .flag .ensures, c .before .before .before .before .before .before .numbers-of .ensures, h .0, h .1)
 
 pub with-progress-spec : {M : Type 1} → statement M
 with-progress-spec = tie.close (tie.spec numbers-of-requires flag-requires flag-requires-2 returns)

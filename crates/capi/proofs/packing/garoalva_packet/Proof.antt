@@ -1,5 +1,6 @@
-use mathlib.Core.Path.{_≡_, refl, sym, _∙_}
+use mathlib.Core.Path.{_≡_, refl, ap, sym, _∙_}
 use mathlib.Core.Bool.{true}
+use Rattle.capi.specs.declared.SessionRecord.{SessionRecord}
 use Rattle.capi.specs.Records.{isSession}
 use Rattle.capi.specs.Border.{packetAtBorder, packetMemoryAtBorder}
 use Rattle.capi.proofs.Laws.{session-told, session-back, packed-session}
@@ -20,7 +21,9 @@ packet-requires : tie.Need-packet-requires
 packet-requires c κs = rw (c .before .session-of .ensures) (session-told _ (passes (c .before .before)) (c .before .before .before .is-session .ensures .1))
 
 with-progress-requires : tie.Need-with-progress-requires
-with-progress-requires c κs = session-back _ (passes (c .before .before .before .before .before .before .before))
+with-progress-requires c κs =
+    let e = session-back _ (passes (c .before .before .before .before .before .before .before)) in
+    (sym (ap (λ (r : SessionRecord). r .seal) e), ap (λ (r : SessionRecord). r .key) e)
 
 number-requires : tie.Need-number-requires
 number-requires c κs = search needs
