@@ -1,14 +1,11 @@
 -- Laws on gathered and scattered bytes.
 use mathlib.Core.Path.{_≡_, refl, ap, sym, _∙_}
 use mathlib.Core.List.{List, [], _∷_, _++_, append-assoc}
-use Prim.Native.Nat.{ℕ, zero, suc, _+_, _*_, _-_, _<_, _≤_}
-use native.Mathlib.Nat.{sub-zero}
+use Prim.Native.Nat.{ℕ, zero, suc, _+_, _<_, _≤_}
 use native.Mathlib.Numerals.{add-one}
 use native.Mathlib.Omega.{arith}
-use borrow.Rule.Slice.PartAt.{part-to-end}
-use borrow.Rule.Slice.PartMut.{putMid, post-is}
-use lib.ListN.{length, take-append-drop, take, drop, getD, set, length-append, length-take, length-drop, length-set, length-map}
-use lib.Seq.{take-at, take-suc, take-suc-set, length-take-le, drop-cons, drop-drop, take-add, take-all, getD-set-same, getD-set-other, getD-take, getD-drop, ext-getD, sets, sets-eq}
+use lib.ListN.{length, take-append-drop, take, drop, getD, set, length-drop, length-set, length-map}
+use lib.Seq.{take-suc, take-suc-set, length-take-le, drop-cons, take-all, getD-set-same, getD-set-other, getD-take, getD-drop, ext-getD, sets, sets-eq}
 use Rattle.layout.specs.Pieces.{from}
 use Rattle.layout.specs.Moves.{gathered, scattered, Distinct, Below}
 
@@ -29,12 +26,6 @@ copy-all d s i h h′ e = sym (take-all i d h) ∙ e ∙ take-all i s h′
 pub length-gathered : (m ps : List ℕ) → length (gathered m ps) ≡ length ps
 unfolding gathered
 length-gathered m ps = length-map ps (λ (p : ℕ). getD m p 0)
-
--- reading at ps ++ qs is reading at ps, then at qs
-pub gathered-append : (m ps qs : List ℕ) → gathered m (ps ++ qs) ≡ gathered m ps ++ gathered m qs
-unfolding gathered
-gathered-append m [] qs = refl
-gathered-append m (p ∷ ps) qs = ap (λ (l : List ℕ). getD m p 0 ∷ l) (gathered-append m ps qs)
 
 -- byte i is that of place i
 pub gathered-at : (m ps : List ℕ) (i : ℕ) → i < length ps → getD (gathered m ps) i 0 ≡ getD m (getD ps i 0) 0
@@ -163,19 +154,5 @@ distinct-drop x ps d i j h h′ e =
     d (x + i) (x + j) (omega (arith, length-drop x ps)) (omega (arith, length-drop x ps)) (sym (getD-drop x ps i 0) ∙ e ∙ getD-drop x ps j 0) in
     omega arith
 
-pub distinct-take : (n : ℕ) (ps : List ℕ) → Distinct ps → Distinct (take n ps)
-distinct-take n ps d i j h h′ e =
-    let len = length-take n ps in
-    d i j (omega arith) (omega arith) (sym (getD-take n ps i 0 (omega arith)) ∙ e ∙ getD-take n ps j 0 (omega arith))
-
 pub below-drop : (n x : ℕ) (ps : List ℕ) → Below n ps → Below n (drop x ps)
 below-drop n x ps w i h = omega (arith, w (x + i) (omega (arith, length-drop x ps)), getD-drop x ps i 0)
-
-pub below-take : (n k : ℕ) (ps : List ℕ) → Below n ps → Below n (take k ps)
-below-take n k ps w i h =
-    let len = length-take k ps in
-    omega (arith, w i (omega arith), getD-take k ps i 0 (omega arith))
-
-pub stored-none : (m ps bs : List ℕ) → length bs ≡ 0 → m ≡ scattered m ps bs
-stored-none m ps [] h = sym (scattered-none m ps)
-stored-none m ps (b ∷ bs) h = absurd (omega arith)

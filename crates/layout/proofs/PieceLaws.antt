@@ -8,7 +8,7 @@ use native.Mathlib.Omega.{arith}
 use lib.ListN.{length, take, drop, getD, length-append}
 use Rattle.layout.specs.declared.Entry.{Entry}
 use Rattle.layout.specs.declared.Layout.{Layout}
-use Rattle.layout.specs.Pieces.{Piece, end, piece, inUse, repeats, pieces, size, span, total, from, placesOf, places}
+use Rattle.layout.specs.Pieces.{Piece, piece, inUse, repeats, pieces, size, span, total, from, placesOf, places}
 use Rattle.layout.specs.Moves.{Within, Placed}
 use Rattle.layout.specs.Steps.{none}
 

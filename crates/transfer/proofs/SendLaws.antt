@@ -9,7 +9,7 @@ use lib.ListN.{length, take, drop, getD, length-take, length-drop}
 use lib.Seq.{take-take, drop-drop, length-take-le, sets-eq}
 use Rattle.layout.specs.declared.Layout.{Layout}
 use Rattle.layout.specs.declared.walking.Cursor.{Cursor}
-use Rattle.layout.specs.Pieces.{places, total}
+use Rattle.layout.specs.Pieces.{places}
 use Rattle.layout.specs.Moves.{gathered}
 use Rattle.layout.specs.Cursors.{ahead, forward, Walked, Readied}
 use Rattle.layout.proofs.PieceLaws.{length-places, one-places, one-total, one-placed}

@@ -1,5 +1,4 @@
 use mathlib.Core.Path.{sym, _∙_}
-use native.Mathlib.Omega.{arith}
 use Rattle.layout.proofs.CursorLaws.{stored-nothing}
 use borrow.Author.Needs.{needs}
 use Rattle.engine.proofs.whole.place.Statement.{statement}

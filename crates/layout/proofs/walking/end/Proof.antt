@@ -1,11 +1,10 @@
 -- Behind as many repeats as there are.
-use mathlib.Core.Path.{ap, _∙_}
-use Prim.Native.Nat.{ℕ}
+use mathlib.Core.Path.{_∙_}
 use native.Mathlib.Nat.{add-zero}
 use native.Mathlib.Omega.{arith}
 use borrow.Author.Needs.{needs}
-use lib.ListN.{drop, length-map}
-use Rattle.layout.specs.Pieces.{from, inUse, places}
+use lib.ListN.{length-map}
+use Rattle.layout.specs.Pieces.{from, inUse}
 use Rattle.layout.proofs.PieceLaws.{size-repeats}
 use Rattle.layout.proofs.AnswerLaws.{length-in-use}
 use Rattle.layout.proofs.CursorLaws.{repeat-start, stands-behind}

@@ -1,7 +1,7 @@
 -- The offset is a byte of a repeat, or the layout's end.
-use mathlib.Core.Path.{_≡_, subst, ap, _∙_}
-use Prim.Native.Nat.{ℕ, _+_, _*_, _/_, _%_, _≤_}
-use native.Mathlib.Nat.{mod-lt, div-add-mod', mul-zero, zero-mul, mul-le-mul-right}
+use mathlib.Core.Path.{_≡_, subst, ap}
+use Prim.Native.Nat.{ℕ, _*_, _/_, _≤_}
+use native.Mathlib.Nat.{mod-lt, div-add-mod', zero-mul, mul-le-mul-right}
 use native.Mathlib.Omega.{arith}
 use borrow.Author.Needs.{needs}
 use Rattle.layout.specs.Pieces.{inUse, span, total}

@@ -1,6 +1,5 @@
 -- The measure is what is left of the buffer.
 use Prim.Native.Nat.{_-_}
-use native.Mathlib.Omega.{arith}
 use borrow.Author.Needs.{needs}
 use Rattle.vectors.proofs.moves.gather.Statement.{statement}
 use Rattle.vectors.proofs.moves.gather.Tie as tie
