@@ -36,6 +36,7 @@ int main(int count, char **arguments) {
     make_crc_table();
     print_conditions(effort);
     print_transfers(effort, &f);
+    print_calls(effort, &f);
     print_plain_pieces(effort, &f);
     print_lengths(effort, &f);
     print_call_sizes(effort, &f);

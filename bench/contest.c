@@ -7,7 +7,8 @@
 
 typedef void (*run)(struct scene *s, enum direction direction);
 
-static const run runs[CONTENDERS] = {run_ours, run_packets, run_loop, run_isal, run_isal_copy, run_memcpy};
+static const run runs[CONTENDERS] = {run_ours, run_packets, run_empty,     run_handed,
+                                     run_loop, run_isal,    run_isal_copy, run_memcpy};
 
 enum { PAGE = 4096 };
 
@@ -26,6 +27,8 @@ static bool takes_part(enum contender c, const struct scene *s, enum direction d
     enum signing signing = s->shape.signing;
     if (c == PACKETS)
         return direction == RECEIVE;
+    if (c == EMPTY || c == HANDED)
+        return direction == RECEIVE && signing == PLAIN;
     if (c == LOOP)
         return signing != PLAIN;
     if (c == ISAL || c == ISAL_COPY)
@@ -73,7 +76,7 @@ void verify(struct scene *s, enum direction direction) {
         fail("out of memory", s);
     memcpy(right, target, length);
     for (enum contender c = OURS; c < MEMCPY; c++) {
-        if (!takes_part(c, s, direction))
+        if (!takes_part(c, s, direction) || c == EMPTY || c == HANDED)
             continue;
         verify_bytes(c, s, direction, right);
         if (checks(s, direction))

@@ -31,15 +31,15 @@ garoalva_session opened_session(struct scene *s, size_t call) {
 }
 
 garoalva_session fed_packets(struct scene *s, garoalva_session session, size_t from, size_t to) {
+    garoalva_packed packed = {.session = session};
     while (from < to) {
         size_t length = to - from < PACKET ? to - from : PACKET;
-        garoalva_packed packed = garoalva_packet(session, s->memory, s->memory_length, s->wire + from, length);
+        packed = garoalva_packet(packed.session, s->memory, s->memory_length, s->wire + from, length);
         if (packed.answer != GAROALVA_DONE)
             fail("a packet was refused", s);
-        session = packed.session;
         from += length;
     }
-    return session;
+    return packed.session;
 }
 
 void finish_session(struct scene *s, garoalva_session session) {
@@ -54,6 +54,18 @@ void run_packets(struct scene *s, enum direction direction) {
     size_t share = s->wire_length / s->calls;
     for (size_t call = 0; call < s->calls; call++)
         finish_session(s, fed_packets(s, opened_session(s, call), call * share, (call + 1) * share));
+}
+
+size_t packet_count(const struct scene *s) { return (s->wire_length + PACKET - 1) / PACKET; }
+
+void run_empty(struct scene *s, enum direction direction) {
+    (void)direction;
+    garoalva_packed packed = {.session = opened_session(s, 0)};
+    for (size_t i = 0; i < packet_count(s); i++) {
+        packed = garoalva_packet(packed.session, s->memory, s->memory_length, s->wire, 0);
+        if (packed.answer != GAROALVA_DONE)
+            fail("an empty packet was refused", s);
+    }
 }
 
 bool found_error(struct scene *s) {

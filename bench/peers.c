@@ -1,4 +1,6 @@
 #include "peers.h"
+#include "handed.h"
+#include "ours.h"
 #include <string.h>
 #ifdef HAVE_ISAL
 #include <isa-l/crc.h>
@@ -145,5 +147,15 @@ void run_memcpy(struct scene *s, enum direction direction) {
             memcpy(wire + i * s->piece, s->memory + i * s->stride, s->piece);
         else
             memcpy(memory + i * s->stride, s->wire + i * s->piece, s->piece);
+    }
+}
+
+void run_handed(struct scene *s, enum direction direction) {
+    (void)direction;
+    garoalva_packed packed = {.session = opened_session(s, 0)};
+    for (size_t i = 0; i < packet_count(s); i++) {
+        packed = handed_over(packed.session, s->memory, s->memory_length, s->wire, 0);
+        if (packed.answer != GAROALVA_DONE)
+            fail("nothing was refused", s);
     }
 }

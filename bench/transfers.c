@@ -102,6 +102,25 @@ void print_transfers(struct effort effort, struct findings *f) {
         print_block_size(block_sizes[i], effort, f);
 }
 
+void print_calls(struct effort effort, struct findings *f) {
+    static const size_t pieces[] = {1, 16, MANY_PIECES};
+    printf("\n## What a packet costs whatever its length, in ns, nothing signed\n\n"
+           "A call that only hands the session over and back, in C; ours without a byte; ours with %d bytes; and the\n"
+           "share of so many bytes in one receive. No call that takes and gives a session by value can cost less than\n"
+           "the first. Least: the first and the last, to the last.\n\n"
+           "| pieces | handed over |   empty | %d bytes | in one receive | least |\n|---:|---:|---:|---:|---:|---:|\n",
+           PACKET, PACKET);
+    for (size_t i = 0; i < sizeof pieces / sizeof *pieces; i++) {
+        struct scene s = scene_made((struct shape){PLAIN, 4096, 256, pieces[i]});
+        struct times t = measured(&s, RECEIVE, effort);
+        double count = (double)packet_count(&s), least = 1 + t.seconds[HANDED] / t.seconds[OURS];
+        printf("| %6zu | %11.0f | %7.0f | %10.0f | %14.0f | %5.2f |\n", pieces[i], t.seconds[HANDED] / count * 1e9,
+               t.seconds[EMPTY] / count * 1e9, t.seconds[PACKETS] / count * 1e9, t.seconds[OURS] / count * 1e9, least);
+        keep_lowest(&f->least_packets, least, "a call that does nothing");
+        scene_freed(&s);
+    }
+}
+
 void print_plain_pieces(struct effort effort, struct findings *f) {
     printf("\n## Unsigned transfers over pieces of 4,096 bytes, in MB per second\n\n"
            "| call    | pieces |     ours |   memcpy | /memcpy |\n|---|---:|---:|---:|---:|\n");

@@ -36,15 +36,14 @@ static garoalva_key configured_key(const uint8_t *memory) {
 static garoalva_key receive_by_packets(garoalva_key key, uint8_t *memory, const uint8_t *wire) {
     garoalva_opened opened = garoalva_open(key, memory, DATA, 0, DATA);
     stop_if_refused("open", opened.answer);
-    garoalva_session session = opened.session;
+    garoalva_packed packed = {.session = opened.session};
     for (size_t at = 0; at < WIRE; at += PACKET) {
         size_t length = WIRE - at < PACKET ? WIRE - at : PACKET;
-        garoalva_packed packed = garoalva_packet(session, memory, DATA, wire + at, length);
+        packed = garoalva_packet(packed.session, memory, DATA, wire + at, length);
         stop_if_refused("packet", packed.answer);
-        session = packed.session;
         printf("packet of %zu bytes: %" PRIu64 " taken, %" PRIu64 " written\n", length, packed.taken, packed.written);
     }
-    garoalva_finished finished = garoalva_finish(session);
+    garoalva_finished finished = garoalva_finish(packed.session);
     stop_if_refused("finish", finished.answer);
     return finished.key;
 }

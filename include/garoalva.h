@@ -219,6 +219,7 @@ garoalva_checked garoalva_check(garoalva_key key);
 /*
  * Receive by packets, which may end anywhere. Open answers 0, 8 to 10 and 14; packet 0, 8 and 12; finish 0 and 13.
  * Lend packet the memory of the transfer. Finish and abandon give the key back, with the first error in it.
+ * packed = garoalva_packet(packed.session, ..) in a loop saves the compiler a copy of the session for each packet.
  */
 garoalva_opened garoalva_open(garoalva_key key, const uint8_t *memory, size_t memory_length, uint64_t offset,
                               uint64_t data_length);

@@ -12,7 +12,7 @@ use Rattle.key.specs.Keys.{keep}
 use Rattle.key.proofs.Laws.{keep-none}
 use Rattle.layout.specs.declared.Layout.{Layout}
 use Rattle.layout.specs.declared.walking.Cursor.{Cursor}
-use Rattle.layout.specs.Cursors.{ahead, Stands, Stored}
+use Rattle.layout.specs.Cursors.{ahead, InLayout, Stored}
 use Rattle.layout.proofs.CursorLaws.{stored-nothing}
 use Rattle.engine.specs.declared.Rule.{Rule}
 use Rattle.engine.specs.declared.Progress.{Progress}
@@ -89,7 +89,7 @@ module _ (r : Rule) (b : Bare r) where
         let e = ap length (bare-emitted p at-start bytes) in
         (omega (arith, R .fits), countable r p s (omega (arith, R .small)), omega (arith, R .fits, R .small))
 
-    pub bare-none : length bytes ≡ 0 → Stands l c → Feeds r p l c before bytes (record { progress = p; cursor = c }) before
+    pub bare-none : length bytes ≡ 0 → InLayout l c → Feeds r p l c before bytes (record { progress = p; cursor = c }) before
     unfolding fed emitted
     bare-none e t = go bytes e
       where

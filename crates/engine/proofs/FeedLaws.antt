@@ -12,7 +12,7 @@ use Rattle.layout.specs.declared.walking.Cursor.{Cursor}
 use Rattle.key.specs.declared.Slot.{Slot}
 use Rattle.layout.specs.Pieces.{total}
 use Rattle.layout.specs.Moves.{Placed}
-use Rattle.layout.specs.Cursors.{ahead, Stands, Walked, Stored, Storing}
+use Rattle.layout.specs.Cursors.{ahead, InLayout, Walked, Stored, Storing}
 use Rattle.layout.proofs.CursorLaws.{walked-left, stored-nothing, stored-append, stored-size, storing-on, storing-end}
 use Rattle.engine.specs.declared.Rule.{Rule}
 use Rattle.engine.specs.declared.Progress.{Progress}
@@ -20,7 +20,7 @@ use Rattle.engine.specs.declared.Fed.{Fed}
 use Rattle.engine.specs.Streams.{inBlock, inUnit, outUnit}
 use Rattle.engine.specs.Feeding.{arrived, settled, placed, shown, fed, emitted, begun}
 use Rattle.engine.specs.Standing.{Matched}
-use Rattle.engine.specs.Parts.{dataTaken, fieldTaken, partTaken, partShown, taken, written, InStep, Room, Feeds, Settled, Arrives, Holds, OnePart, Going}
+use Rattle.engine.specs.Parts.{dataTaken, fieldTaken, partTaken, partShown, taken, written, InStep, Room, Feedable, Feeds, Settled, Arrives, Holds, OnePart, Going}
 use Rattle.engine.proofs.Arriving.{field-small}
 use Rattle.engine.proofs.Units.{unit-within}
 use Rattle.engine.proofs.PartLaws.{data-part, field-part, in-step-data, in-step-field, in-step-settled, written-settled, taken-settled, taken-arrived}
@@ -83,7 +83,7 @@ module _ (r : Rule) (p : Progress) (xs : List ℕ) (some : 0 < length xs) (o : O
         → Arrives r p l c before xs (record { progress = q; cursor = d }) after
     arrives-data h before q d after e s = record { progress = rw (lt-ltb (p .input .at) (inBlock r) h) e; stored = rw (lt-ltb (p .input .at) (inBlock r) h) s }
 
-    pub arrives-field : inBlock r ≤ p .input .at → (before : List ℕ) (q : Progress) → q ≡ fieldTaken r p xs → Stands l c
+    pub arrives-field : inBlock r ≤ p .input .at → (before : List ℕ) (q : Progress) → q ≡ fieldTaken r p xs → InLayout l c
         → Arrives r p l c before xs (record { progress = q; cursor = c }) before
     arrives-field h before q e s = record { progress = rw (le-ltb (p .input .at) (inBlock r) h) e; stored = rw (le-ltb (p .input .at) (inBlock r) h) (stored-nothing l c before s) }
 
@@ -162,15 +162,14 @@ written-within r p s h n t = go (decLt (p .input .index) n)
             rw (e, z) (omega arith)
 
 module _ (r : Rule) (p : Progress) (l : Layout) (c : Cursor) (before bytes : List ℕ) where
-  pub going-start : (m : ℕ) → m ≡ length before → InStep r p → p .input .at < inUnit r → Room r p l c m (length (emitted r p bytes))
-      → Going r p l c before bytes (record { progress = p; cursor = c }) before bytes
-  going-start m e s h R = record {
-    inStep = s;
-    begun = h;
+  pub going-start : (m : ℕ) → m ≡ length before → Feedable r p l c m bytes → Going r p l c before bytes (record { progress = p; cursor = c }) before bytes
+  going-start m e f = record {
+    inStep = f .inStep;
+    begun = f .begun;
     progress = refl;
-    storing = record { stands = R .stands; room = R .fits; on = refl; memory = refl; size = refl };
-    placed = rw e at (R .placed);
-    small = R .small;
+    storing = record { stands = f .room .stands; room = f .room .fits; on = refl; memory = refl; size = refl };
+    placed = rw e at (f .room .placed);
+    small = f .room .small;
   }
 
   module _ (q : Fed) (mid rest : List ℕ) (g : Going r p l c before bytes q mid rest) where
@@ -182,7 +181,7 @@ module _ (r : Rule) (p : Progress) (l : Layout) (c : Cursor) (before bytes : Lis
       whole-emitted : emitted r (q .progress) rest ≡ emitted r (q .progress) (take n rest) ++ emitted r (fed r (q .progress) (take n rest)) (drop n rest)
       whole-emitted = ap (emitted r (q .progress)) (sym (take-append-drop n rest)) ∙ emitted-append r (q .progress) (take n rest) (drop n rest)
 
-      pub part-room : Room r (q .progress) l (q .cursor) (length mid) (length (emitted r (q .progress) (take n rest)))
+      part-room : Room r (q .progress) l (q .cursor) (length mid) (length (emitted r (q .progress) (take n rest)))
       part-room = record {
         placed = g .placed;
         stands = g .storing .stands;
@@ -195,9 +194,12 @@ module _ (r : Rule) (p : Progress) (l : Layout) (c : Cursor) (before bytes : Lis
         small = g .small;
       }
 
+      pub part-feedable : Feedable r (q .progress) l (q .cursor) (length mid) (take n rest)
+      part-feedable = record { inStep = g .inStep; begun = g .begun; room = part-room }
+
       pub part-asks : 0 < n → n ≤ length rest → OnePart r (q .progress) n
-          → (OnePart r (q .progress) (length (take n rest))) × (0 < length (take n rest)) × (Room r (q .progress) l (q .cursor) (length mid) (length (emitted r (q .progress) (take n rest))))
-      part-asks some most o = rw (length-take-le n rest most) (o, some, part-room)
+          → Feedable r (q .progress) l (q .cursor) (length mid) (take n rest) × ((OnePart r (q .progress) (length (take n rest))) × (0 < length (take n rest)))
+      part-asks some most o = (part-feedable, rw (length-take-le n rest most) (o, some))
 
       pub going-turn : (q′ : Fed) (mid′ : List ℕ) → Feeds r (q .progress) l (q .cursor) mid (take n rest) q′ mid′ → Going r p l c before bytes q′ mid′ (drop n rest)
       going-turn q′ mid′ f =

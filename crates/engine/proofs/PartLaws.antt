@@ -17,7 +17,7 @@ use Rattle.field.specs.Domains.{signed}
 use Rattle.field.specs.Fields.{bytesOf}
 use Rattle.layout.specs.declared.Layout.{Layout}
 use Rattle.layout.specs.declared.walking.Cursor.{Cursor}
-use Rattle.layout.specs.Cursors.{Stands, Stored}
+use Rattle.layout.specs.Cursors.{InLayout, Stored}
 use Rattle.layout.proofs.CursorLaws.{stored-nothing}
 use Rattle.engine.specs.declared.Rule.{Rule}
 use Rattle.engine.specs.declared.Side.{Side}
@@ -216,7 +216,7 @@ countable r p s h =
 -- ---- settling
 
 module _ (r : Rule) (p : Progress) (l : Layout) (c : Cursor) (before : List ℕ) where
-  pub settled-partial : (u : ℕ) → u ≡ inUnit r → (p .input .at ≡ u → ⊥) → Stands l c → Settled r p l c before (record { progress = p; cursor = c }) before
+  pub settled-partial : (u : ℕ) → u ≡ inUnit r → (p .input .at ≡ u → ⊥) → InLayout l c → Settled r p l c before (record { progress = p; cursor = c }) before
   unfolding settled
   settled-partial u e n s =
       let w : whole r p ≡ false = ne-eqb (p .input .at) (inUnit r) (λ s. n (s ∙ sym e)) in

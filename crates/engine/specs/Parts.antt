@@ -12,7 +12,7 @@ use Rattle.field.specs.Domains.{signed}
 use Rattle.layout.specs.declared.Layout.{Layout}
 use Rattle.layout.specs.declared.walking.Cursor.{Cursor}
 use Rattle.layout.specs.Moves.{Placed}
-use Rattle.layout.specs.Cursors.{ahead, Stands, Stored, Storing}
+use Rattle.layout.specs.Cursors.{ahead, InLayout, Stored, Storing}
 use Rattle.engine.specs.declared.Rule.{Rule}
 use Rattle.engine.specs.declared.Side.{Side}
 use Rattle.engine.specs.declared.Progress.{Progress}
@@ -75,9 +75,15 @@ inStep r p =
 -- So many bytes more fit ahead of the cursor, and all that could be placed can be counted.
 pub record Room (r : Rule) (p : Progress) (l : Layout) (c : Cursor) (memory more : ℕ) : Type 0 where
   pub placed : Placed l memory
-  pub stands : Stands l c
+  pub stands : InLayout l c
   pub fits : more ≤ length (ahead l c)
   pub small : written r p + length (ahead l c) ≤ 2 ^ 40
+
+-- What feeding asks: both sides in step, a unit begun, and room for what is placed.
+pub record Feedable (r : Rule) (p : Progress) (l : Layout) (c : Cursor) (memory : ℕ) (bytes : List ℕ) : Type 0 where
+  pub inStep : InStep r p
+  pub begun : p .input .at < inUnit r
+  pub room : Room r p l c memory (length (emitted r p bytes))
 
 -- What feeding gives: the engine's progress, and its output placed ahead of the cursor.
 pub record Feeds (r : Rule) (p : Progress) (l : Layout) (c : Cursor) (before bytes : List ℕ) (f : Fed) (after : List ℕ) : Type 0 where

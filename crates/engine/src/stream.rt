@@ -3,9 +3,8 @@ ghost use mathlib.Core.Path.{_≡_};
 ghost use Prim.Native.Nat.{_+_, _≤_, _<_, min};
 ghost use lib.ListN.{length};
 ghost use Rattle.engine.specs.Streams.{inUnit};
-ghost use Rattle.engine.specs.Feeding.{emitted};
 ghost use Rattle.engine.specs.Parts as parts;
-ghost use Rattle.engine.specs.Parts.{OnePart, Bare, InStep, Room, Arrives, Feeds};
+ghost use Rattle.engine.specs.Parts.{OnePart, Bare, InStep, Feedable, Arrives, Feeds};
 use crate::Fed;
 use crate::Progress;
 use crate::Rule;
@@ -54,8 +53,8 @@ fn lesser(a: u64, b: usize) -> usize
 
 // A part that is all of one block's data or all of one field: data is placed at once, a field held.
 fn arrive(rule: Rule, p: Progress, l: Layout, memory: &mut [u8], c: Cursor, part: &[u8]) -> Fed
-    requires { ⌜ InStep rule p ⌝ }
-    requires { ⌜ (OnePart rule p (length (now part))) × (0 < length (now part)) × (Room rule p l c (length (now memory)) (length (emitted rule p (now part)))) ⌝ }
+    requires { ⌜ Feedable rule p l c (length (now memory)) (now part) ⌝ }
+    requires { ⌜ (OnePart rule p (length (now part))) × (0 < length (now part)) ⌝ }
     ensures { λ r. ⌜ Arrives rule p l c (now (memory .entry)) (now (part .entry)) r (now (memory .exit)) ⌝ }
 {
     let at = p.input.at;
@@ -74,8 +73,8 @@ fn arrive(rule: Rule, p: Progress, l: Layout, memory: &mut [u8], c: Cursor, part
 
 // Feeds such a part. A unit that it makes whole is settled.
 fn feed_part(rule: Rule, p: Progress, l: Layout, memory: &mut [u8], c: Cursor, part: &[u8]) -> Fed
-    requires { ⌜ InStep rule p ⌝ }
-    requires { ⌜ (OnePart rule p (length (now part))) × (0 < length (now part)) × (Room rule p l c (length (now memory)) (length (emitted rule p (now part)))) ⌝ }
+    requires { ⌜ Feedable rule p l c (length (now memory)) (now part) ⌝ }
+    requires { ⌜ (OnePart rule p (length (now part))) × (0 < length (now part)) ⌝ }
     ensures { λ r. ⌜ Feeds rule p l c (now (memory .entry)) (now (part .entry)) r (now (memory .exit)) ⌝ }
 {
     let a = arrive(rule, p, l, memory, c, part);
@@ -84,8 +83,7 @@ fn feed_part(rule: Rule, p: Progress, l: Layout, memory: &mut [u8], c: Cursor, p
 
 // Feeds bytes part by part.
 fn feed_parts(rule: Rule, p: Progress, l: Layout, memory: &mut [u8], c: Cursor, bytes: &[u8]) -> Fed
-    requires { ⌜ (InStep rule p) × (p .input .at < inUnit rule) ⌝ }
-    requires { ⌜ Room rule p l c (length (now memory)) (length (emitted rule p (now bytes))) ⌝ }
+    requires { ⌜ Feedable rule p l c (length (now memory)) (now bytes) ⌝ }
     ensures { λ r. ⌜ Feeds rule p l c (now (memory .entry)) (now (bytes .entry)) r (now (memory .exit)) ⌝ }
 {
     let mut q = Fed {
@@ -103,8 +101,8 @@ fn feed_parts(rule: Rule, p: Progress, l: Layout, memory: &mut [u8], c: Cursor, 
 
 // Feeds bytes where neither side is signed: each byte is a unit, and all go at once.
 fn feed_bare(rule: Rule, p: Progress, l: Layout, memory: &mut [u8], c: Cursor, bytes: &[u8]) -> Fed
-    requires { ⌜ (InStep rule p) × (p .input .at < inUnit rule) × (Bare rule) ⌝ }
-    requires { ⌜ Room rule p l c (length (now memory)) (length (emitted rule p (now bytes))) ⌝ }
+    requires { ⌜ Feedable rule p l c (length (now memory)) (now bytes) ⌝ }
+    requires { ⌜ Bare rule ⌝ }
     ensures { λ r. ⌜ Feeds rule p l c (now (memory .entry)) (now (bytes .entry)) r (now (memory .exit)) ⌝ }
 {
     if bytes.len() == 0 {
@@ -130,8 +128,7 @@ fn feed_bare(rule: Rule, p: Progress, l: Layout, memory: &mut [u8], c: Cursor, b
 // Feeds bytes of the input stream, which may end anywhere, and places what becomes known of the output stream from the
 // cursor on.
 pub fn feed(rule: Rule, p: Progress, l: Layout, memory: &mut [u8], c: Cursor, bytes: &[u8]) -> Fed
-    requires { ⌜ (InStep rule p) × (p .input .at < inUnit rule) ⌝ }
-    requires { ⌜ Room rule p l c (length (now memory)) (length (emitted rule p (now bytes))) ⌝ }
+    requires { ⌜ Feedable rule p l c (length (now memory)) (now bytes) ⌝ }
     ensures { λ r. ⌜ Feeds rule p l c (now (memory .entry)) (now (bytes .entry)) r (now (memory .exit)) ⌝ }
 {
     if field::signed(rule.input) | field::signed(rule.output) {

@@ -15,7 +15,7 @@ use Rattle.layout.specs.declared.Layout.{Layout}
 use Rattle.layout.specs.declared.walking.Cursor.{Cursor}
 use Rattle.layout.specs.Pieces.{Piece, end, piece, inUse, repeats, pieces, span, total, from, placesOf, places}
 use Rattle.layout.specs.Moves.{gathered, scattered, Placed}
-use Rattle.layout.specs.Cursors.{nextPiece, ahead, forward, Stands, Walked, Readied, Stored, Storing}
+use Rattle.layout.specs.Cursors.{nextPiece, ahead, forward, InLayout, Walked, Readied, Stored, Storing}
 use Rattle.layout.specs.Steps.{none, nowhere}
 use Rattle.layout.proofs.PieceLaws.{size-repeat, length-from, drop-from, take-from, length-places-of, length-places}
 use Rattle.layout.proofs.MoveLaws.{gathered-from, scattered-none, scattered-append, scattered-run, length-scattered}
@@ -78,7 +78,7 @@ module _ (l : Layout) (used : length (inUse l) ≡ l .used) where
   how-many = length-repeats (inUse l) 0 (l .repeat) ∙ ap (λ (n : ℕ). l .repeat * n) used
 
   -- a cursor behind the entries of a repeat, or behind all
-  pub stands-behind : (r i : ℕ) → r ≤ l .repeat → i ≤ l .used → Stands l (record { place = record { 0 = 0 }; left = 0; entry = i; repeat = r })
+  pub stands-behind : (r i : ℕ) → r ≤ l .repeat → i ≤ l .used → InLayout l (record { place = record { 0 = 0 }; left = 0; entry = i; repeat = r })
   stands-behind r i h k = record { used = used; entry = k; repeat = h; inside = λ n p. omega arith }
 
   -- entry i of repeat r
@@ -106,7 +106,7 @@ module _ (l : Layout) (used : length (inUse l) ≡ l .used) where
       abbrev at : Cursor
       at = record { place = record { 0 = a + y }; left = getD (l .entries) i none .count - y; entry = i + 1; repeat = r }
 
-      pub stands-at : Stands l at
+      pub stands-at : InLayout l at
       stands-at = record { used = used; entry = omega arith; repeat = omega arith; inside = λ n p. omega (arith, piece-ends n p) }
 
       pub ahead-at : ahead l at ≡ drop y (placesOf (drop (r * l .used + i) (pieces l)))
@@ -128,13 +128,13 @@ span-left u es i h k = rw add-one (go u es i h k)
     go (suc u) (e ∷ es) zero h k = refl
     go (suc u) (e ∷ es) (suc i) h k = go u es i (omega arith) (omega arith)
 
-pub span-none : (u : ℕ) (es : List Entry) (i : ℕ) → u ≤ i → span (drop i (take u es)) ≡ 0
+pub span-passed : (u : ℕ) (es : List Entry) (i : ℕ) → u ≤ i → span (drop i (take u es)) ≡ 0
 unfolding span
-span-none u es i h = rw (drop-of-length-le (take u es) {i = i} (omega (arith, length-take u es)))
+span-passed u es i h = rw (drop-of-length-le (take u es) {i = i} (omega (arith, length-take u es)))
 
 -- ---- the next piece
 
-module _ (l : Layout) (c : Cursor) (s : Stands l c) where
+module _ (l : Layout) (c : Cursor) (s : InLayout l c) where
   -- nothing is left of a cursor's piece
   pub all-next : c .left ≡ 0 → ahead l c ≡ placesOf (drop (nextPiece l c) (pieces l))
   unfolding from
@@ -151,7 +151,7 @@ module _ (l : Layout) (c : Cursor) (s : Stands l c) where
 
   -- the cursor further on in its piece
   module _ (n : ℕ) (h : n ≤ c .left) where
-    pub forward-stands : Stands l (forward c n)
+    pub forward-stands : InLayout l (forward c n)
     forward-stands = record { used = s .used; entry = s .entry; repeat = s .repeat; inside = λ m p. omega (arith, s .inside m p) }
 
     pub forward-ahead : ahead l (forward c n) ≡ drop n (ahead l c)
@@ -195,7 +195,7 @@ module _ (l : Layout) (c : Cursor) (before bytes : List ℕ) where
 -- ---- stores behind stores
 
 -- no bytes were stored
-pub stored-nothing : (l : Layout) (c : Cursor) (before : List ℕ) → Stands l c → Stored l c before [] c before
+pub stored-nothing : (l : Layout) (c : Cursor) (before : List ℕ) → InLayout l c → Stored l c before [] c before
 stored-nothing l c before s = record { stands = s; on = refl; memory = sym (scattered-none before (ahead l c)) }
 
 -- xs were stored, then ys
@@ -231,7 +231,7 @@ storing-on l c before bytes d e mid mid′ xs ys g s =
 
 -- ---- runs
 
-module _ (l : Layout) (c : Cursor) (m : List ℕ) (s : Stands l c) (p : Placed l (length m)) where
+module _ (l : Layout) (c : Cursor) (m : List ℕ) (s : InLayout l c) (p : Placed l (length m)) where
   -- what is left of a piece holds the bytes of the places ahead
   pub run-gathered : take (c .left) (drop (c .place .0) m) ≡ gathered m (take (c .left) (ahead l c))
   run-gathered =

@@ -3,7 +3,7 @@ ghost use mathlib.Core.Path.{_≡_};
 ghost use Prim.Native.Nat.{_≤_};
 ghost use lib.ListN.{length};
 ghost use Rattle.layout.specs.Moves.{Placed};
-ghost use Rattle.layout.specs.Cursors.{Stands, Stored, ahead};
+ghost use Rattle.layout.specs.Cursors.{InLayout, Stored, ahead};
 use crate::Layout;
 use crate::numbers::lesser;
 use crate::walking::Cursor;
@@ -25,7 +25,7 @@ fn copy(src: &[u8], dst: &mut [u8])
 // Stores the bytes at the places ahead of a cursor, in order. Pieces may overlap: a later byte then stands.
 pub fn scatter(l: Layout, memory: &mut [u8], at: Cursor, bytes: &[u8]) -> Cursor
     requires { ⌜ Placed l (length (now memory)) ⌝ }
-    requires { ⌜ (Stands l at) × (length (now bytes) ≤ length (ahead l at)) ⌝ }
+    requires { ⌜ (InLayout l at) × (length (now bytes) ≤ length (ahead l at)) ⌝ }
     ensures { λ r. ⌜ Stored l at (now (memory .entry)) (now (bytes .entry)) r (now (memory .exit)) ⌝ }
 {
     let mut c = at;

@@ -5,7 +5,7 @@ ghost use lib.ListN.{length, take, drop};
 ghost use Rattle.layout.specs.Pieces.{span, pieces, inUse, total};
 ghost use Rattle.layout.specs.Moves.{Placed};
 ghost use Rattle.layout.specs.Cursors as cursors;
-ghost use Rattle.layout.specs.Cursors.{Stands, Walked, Begins, Readied, ahead, nextPiece};
+ghost use Rattle.layout.specs.Cursors.{InLayout, Walked, Begins, Readied, ahead, nextPiece};
 use crate::Layout;
 use crate::LayoutOffset;
 use crate::MemoryOffset;
@@ -100,7 +100,7 @@ fn piece(l: Layout, i: usize, r: u64) -> Cursor
 
 // The next piece.
 fn next(l: Layout, c: Cursor) -> Cursor
-    requires { ⌜ (Placed l (2 ^ 64 - 1)) × (Stands l c) × (nextPiece l c < length (pieces l)) ⌝ }
+    requires { ⌜ (Placed l (2 ^ 64 - 1)) × (InLayout l c) × (nextPiece l c < length (pieces l)) ⌝ }
     ensures { λ d. ⌜ Begins l (nextPiece l c) d ⌝ }
 {
     let i = c.entry;
@@ -112,7 +112,7 @@ fn next(l: Layout, c: Cursor) -> Cursor
 
 // The cursor where it has bytes left of its piece, else at the next that has any.
 pub fn ready(l: Layout, c: Cursor) -> Cursor
-    requires { ⌜ (Placed l (2 ^ 64 - 1)) × (Stands l c) × (0 < length (ahead l c)) ⌝ }
+    requires { ⌜ (Placed l (2 ^ 64 - 1)) × (InLayout l c) × (0 < length (ahead l c)) ⌝ }
     ensures { λ d. ⌜ Readied l c d ⌝ }
 {
     let mut d = c;

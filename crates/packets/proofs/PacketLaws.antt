@@ -30,7 +30,7 @@ use Rattle.engine.specs.declared.Progress.{Progress}
 use Rattle.engine.specs.Streams.{inBlock, inUnit}
 use Rattle.engine.specs.Feeding.{begun, fed, emitted}
 use Rattle.engine.specs.declared.Fed.{Fed}
-use Rattle.engine.specs.Parts.{InStep, inStep, Room, Feeds, taken, written}
+use Rattle.engine.specs.Parts.{InStep, inStep, Feedable, Feeds, taken, written}
 use Rattle.engine.proofs.Arriving.{field-small}
 use Rattle.engine.proofs.Feeding.{fed-append}
 use Rattle.engine.proofs.FeedLaws.{room-at, begun-in-step, fed-after, fed-taken, written-within}
@@ -131,11 +131,15 @@ module _ (s : Session) (u : Underway s) where
         let w : s .start .0 + written (ruleOf s) (s .progress) ≤ total (s .key .layout) = omega (arith, after .2, written-fits, told .inside) in
         (omega (arith, told .bounded .small), omega (arith, told .bounded .small), walkable told .0, w)
 
-    pub packet-room : (memory : ℕ) → memory ≡ s .key .«memory_length» → (at : Cursor) → Walked (s .key .layout) (s .start .0 + written (ruleOf s) (s .progress)) at
-        → Room (ruleOf s) (s .progress) (s .key .layout) at memory (length (emitted (ruleOf s) (s .progress) bytes))
-    packet-room memory e at w =
-        room-at (ruleOf s) (s .progress) (s .key .layout) (s .start .0 + written (ruleOf s) (s .progress)) at memory _ (rw e (told .placed)) w (omega arith)
-        (omega (arith, after .2, written-fits, told .inside)) (omega (arith, told .bounded .small))
+    pub packet-feeds : (memory : ℕ) → memory ≡ s .key .«memory_length» → (at : Cursor) → Walked (s .key .layout) (s .start .0 + written (ruleOf s) (s .progress)) at
+        → Feedable (ruleOf s) (s .progress) (s .key .layout) at memory bytes
+    packet-feeds memory e at w = record {
+      inStep = session-in-step .0;
+      begun = session-in-step .1;
+      room =
+          room-at (ruleOf s) (s .progress) (s .key .layout) (s .start .0 + written (ruleOf s) (s .progress)) at memory _ (rw e (told .placed)) w (omega arith)
+          (omega (arith, after .2, written-fits, told .inside)) (omega (arith, told .bounded .small));
+    }
 
 -- ---- a session of any making
 

@@ -31,7 +31,7 @@ use Rattle.engine.specs.Feeding.{fed, emitted, begun}
 use Rattle.engine.specs.Standing.{Matched}
 use Rattle.engine.specs.declared.Progress.{Progress}
 use Rattle.engine.specs.declared.Fed.{Fed}
-use Rattle.engine.specs.Parts.{InStep, Room, Feeds}
+use Rattle.engine.specs.Parts.{InStep, Feedable, Feeds}
 use Rattle.engine.proofs.Settling.{bytes-take}
 use Rattle.engine.proofs.Feeding.{finished-fed}
 use Rattle.engine.proofs.FeedLaws.{room-at, begun-in-step, fed-after}
@@ -183,15 +183,15 @@ module _ (k : Key) (memory wire : List ℕ) (x count : ℕ) (c : Usable k) (e : 
 
   -- what feeding the wire's stream asks
   pub receive-asks : (at : Cursor) → Walked (k .layout) x at
-      → (InStep (receiveRule (k .signature)) (begun (receiveRule (k .signature)) Empty) × (0 < inUnit (receiveRule (k .signature))))
-      × Room (receiveRule (k .signature)) (begun (receiveRule (k .signature)) Empty) (k .layout) at (length memory)
-      (length (emitted (receiveRule (k .signature)) (begun (receiveRule (k .signature)) Empty) (wireStream k wire count)))
+      → Feedable (receiveRule (k .signature)) (begun (receiveRule (k .signature)) Empty) (k .layout) at (length memory) (wireStream k wire count)
   receive-asks at w =
       let a = receive-accepted .admitted in
-      let z = zero-mul (outUnit (receiveRule (k .signature))) in (
-        (receive-whole .inStep, receive-whole .some),
-        room-at _ _ _ x at _ _ (a .placed) w (omega arith) (omega (arith, receive-whole .size, a .inside)) (omega (arith, a .bounded .small)),
-      )
+      let z = zero-mul (outUnit (receiveRule (k .signature))) in
+      record {
+        inStep = receive-whole .inStep;
+        begun = receive-whole .some;
+        room = room-at _ _ _ x at _ _ (a .placed) w (omega arith) (omega (arith, receive-whole .size, a .inside)) (omega (arith, a .bounded .small));
+      }
 
   -- what it gives
   pub receive-gives : (at : Cursor) → Walked (k .layout) x at → (f : Fed) (after : List ℕ)

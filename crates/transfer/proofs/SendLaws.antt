@@ -32,8 +32,8 @@ use Rattle.engine.specs.declared.Progress.{Progress}
 use Rattle.engine.specs.Streams.{inUnit, outUnit}
 use Rattle.engine.specs.Feeding.{begun, emitted}
 use Rattle.engine.specs.declared.Fed.{Fed}
-use Rattle.engine.specs.Parts.{InStep, Room, Feeds}
-use Rattle.engine.proofs.FeedLaws.{room-at, going-start, going-turn, going-end, part-room}
+use Rattle.engine.specs.Parts.{Feedable, Feeds}
+use Rattle.engine.proofs.FeedLaws.{room-at, going-start, going-turn, going-end, part-feedable}
 use Rattle.transfer.specs.declared.Transferred.{Transferred}
 use Rattle.transfer.specs.Rules.{sendRule, outputOf}
 use Rattle.transfer.specs.Transferring.{memoryStream, answered, answerOf, sending, wireSent}
@@ -79,8 +79,8 @@ module _ (r : Rule) (l : Layout) (memory : List ℕ) (x n : ℕ) (to : Layout) (
         most = omega arith;
         going =
             rw e
-            (going-start r (begun r Empty) to first before (firstBytes memory (ahead l start) n) (length before) refl (D .inStep) (D .some)
-            (room-at _ _ _ 0 first _ _ (D .target) F (omega arith) (rw (S .on) (omega (arith, D .room))) (D .small)));
+            (going-start r (begun r Empty) to first before (firstBytes memory (ahead l start) n) (length before) refl
+            (record { inStep = D .inStep; begun = D .some; room = room-at _ _ _ 0 first _ _ (D .target) F (omega arith) (rw (S .on) (omega (arith, D .room))) (D .small) }));
         stands = S .stands;
         on = refl;
       }
@@ -103,11 +103,8 @@ module _ (r : Rule) (l : Layout) (memory : List ℕ) (x n : ℕ) (to : Layout) (
       pub draw-some : (0 < k) × (k ≤ c′ .left) × (d + k ≤ n)
       draw-some = (omega (arith, size, R .some), omega (arith, size), omega arith)
 
-      pub draw-asks : (InStep r (q .progress) × (q .progress .input .at < inUnit r)) × Room r (q .progress) to (q .cursor) (length mid) (length (emitted r (q .progress) (take k run)))
-      draw-asks = (
-        (g .going .inStep, g .going .begun),
-        rw same (part-room r (begun r Empty) to first before (firstBytes memory (ahead l start) n) q mid (drop d (firstBytes memory (ahead l start) n)) (g .going) k),
-      )
+      pub draw-asks : Feedable r (q .progress) to (q .cursor) (length mid) (take k run)
+      draw-asks = rw same (part-feedable r (begun r Empty) to first before (firstBytes memory (ahead l start) n) q mid (drop d (firstBytes memory (ahead l start) n)) (g .going) k)
 
       pub draw-turn : (q′ : Fed) (mid′ : List ℕ) → Feeds r (q .progress) to (q .cursor) mid (take k run) q′ mid′ → Drawing r l memory start n to first before q′ (forward c′ k) (d + k) mid′
       draw-turn q′ mid′ f = record {

@@ -7,7 +7,7 @@ use Rattle.layout.specs.declared.Layout.{Layout}
 use Rattle.layout.specs.declared.walking.Cursor.{Cursor}
 use Rattle.layout.specs.Pieces.{places, total}
 use Rattle.layout.specs.Moves.{gathered, scattered, Placed}
-use Rattle.layout.specs.Cursors.{ahead, Stands}
+use Rattle.layout.specs.Cursors.{ahead, InLayout}
 use Rattle.key.specs.declared.Slot.{Slot}
 use Rattle.key.specs.declared.Slot.the-variants.{Empty}
 use Rattle.engine.specs.declared.Rule.{Rule}
@@ -39,7 +39,7 @@ pub record Drawable (r : Rule) (l : Layout) (memory : List ℕ) (x n : ℕ) (to 
 pub record Drawing (r : Rule) (l : Layout) (memory : List ℕ) (start : Cursor) (n : ℕ) (to : Layout) (first : Cursor) (before : List ℕ) (q : Fed) (c : Cursor) (d : ℕ) (mid : List ℕ) : Type 0 where
   pub most : d ≤ n
   pub going : Going r (begun r Empty) to first before (firstBytes memory (ahead l start) n) q mid (drop d (firstBytes memory (ahead l start) n))
-  pub stands : Stands l c
+  pub stands : InLayout l c
   pub on : ahead l c ≡ drop d (ahead l start)
 
 -- What it gives: the first error, and the output in its places.

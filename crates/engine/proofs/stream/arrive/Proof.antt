@@ -12,14 +12,14 @@ scatter-requires c κs =
     let i = c .before in
     let s = i .before .before .before .before in
     let h = rw (i .before .block-size .ensures .0) at (i .if1 .taken) in
-    (s .pre .1 .2 .placed, (s .pre .1 .2 .stands, data-room _ _ (s .args .part .now) (s .pre .1 .1) (s .pre .1 .0) _ _ _ h (s .pre .1 .2)))
+    (s .pre .0 .room .placed, (s .pre .0 .room .stands, data-room _ _ (s .args .part .now) (s .pre .1 .1) (s .pre .1 .0) _ _ _ h (s .pre .0 .room)))
 
 take-data-requires : tie.Need-take-data-requires
 take-data-requires c κs =
     let i = c .before .before .before .before in
     let s = i .before .before .before .before in
     let h = rw (i .before .block-size .ensures .0) at (i .if1 .taken) in
-    omega (arith, s .pre .1 .0 .block h, s .pre .0 .matched .most, s .pre .0 .at)
+    omega (arith, s .pre .1 .0 .block h, s .pre .0 .inStep .matched .most, s .pre .0 .inStep .at)
 
 same-length : tie.Need-same-length
 same-length c = search needs
@@ -33,13 +33,13 @@ returns c =
 take-field-requires : tie.Need-take-field-requires
 take-field-requires c κs =
     let s = c .before .before .before .before in
-    field-holds _ _ (s .args .part .now) (s .pre .1 .1) (s .pre .1 .0) (rw (c .before .block-size .ensures .0) at (c .if1 .left)) (s .pre .0)
+    field-holds _ _ (s .args .part .now) (s .pre .1 .1) (s .pre .1 .0) (rw (c .before .block-size .ensures .0) at (c .if1 .left)) (s .pre .0 .inStep)
 
 returns-2 : tie.Need-returns-2
 returns-2 c =
     let i = c .before in
     let s = i .before .before .before .before in
-    arrives-field _ _ (s .args .part .now) (s .pre .1 .1) (s .pre .1 .0) _ _ (rw (i .before .block-size .ensures .0) at (i .if1 .left)) _ _ (c .take-field .ensures) (s .pre .1 .2 .stands)
+    arrives-field _ _ (s .args .part .now) (s .pre .1 .1) (s .pre .1 .0) _ _ (rw (i .before .block-size .ensures .0) at (i .if1 .left)) _ _ (c .take-field .ensures) (s .pre .0 .room .stands)
 
 pub arrive-spec : {M : Type 1} → statement M
 arrive-spec =

@@ -24,7 +24,7 @@ feed-bare-requires c κs =
     let b = c .before .before in
     let s = b .before .before .before .before in
     let neither = or-false (b .before .signed .result) (b .signed2 .result) (c .before .if1 .left) in
-    ((s .pre .0 .0, s .pre .0 .1, record { input = sym (b .before .signed .ensures) ∙ neither .0; output = sym (b .signed2 .ensures) ∙ neither .1 }), s .pre .1)
+    (s .pre, record { input = sym (b .before .signed .ensures) ∙ neither .0; output = sym (b .signed2 .ensures) ∙ neither .1 })
 
 same-length-2 : tie.Need-same-length-2
 same-length-2 c = search needs

@@ -7,18 +7,18 @@ use Rattle.engine.proofs.stream.feed_bare.Tie as tie
 returns : tie.Need-returns
 returns c =
     let s = c .before .before .before in
-    bare-none _ (s .pre .0 .2) _ _ _ _ _ (s .pre .0 .0) (s .pre .0 .1) (c .if1 .taken) (s .pre .1 .stands)
+    bare-none _ (s .pre .1) _ _ _ _ _ (s .pre .0 .inStep) (s .pre .0 .begun) (c .if1 .taken) (s .pre .0 .room .stands)
 
 scatter-requires : tie.Need-scatter-requires
 scatter-requires c κs =
     let s = c .before .before .before .before in
-    let R = bare-room _ (s .pre .0 .2) _ _ _ (s .args .memory .now) (s .args .bytes .now) (s .pre .0 .0) (s .pre .0 .1) _ (s .pre .1) in
-    (s .pre .1 .placed, (s .pre .1 .stands, R .0))
+    let R = bare-room _ (s .pre .1) _ _ _ (s .args .memory .now) (s .args .bytes .now) (s .pre .0 .inStep) (s .pre .0 .begun) _ (s .pre .0 .room) in
+    (s .pre .0 .room .placed, (s .pre .0 .room .stands, R .0))
 
 add-at-block : tie.Need-add-at-block
 add-at-block c =
     let s = c .before .before .before .before .before .before .before .before .before in
-    let R = bare-room _ (s .pre .0 .2) _ _ _ (s .args .memory .now) (s .args .bytes .now) (s .pre .0 .0) (s .pre .0 .1) _ (s .pre .1) in
+    let R = bare-room _ (s .pre .1) _ _ _ (s .args .memory .now) (s .args .bytes .now) (s .pre .0 .inStep) (s .pre .0 .begun) _ (s .pre .0 .room) in
     omega (arith, R .1 .input, R .2)
 
 at-block-requires : tie.Need-at-block-requires
@@ -27,7 +27,7 @@ at-block-requires c κs = search needs
 add-at-block-2 : tie.Need-add-at-block-2
 add-at-block-2 c =
     let s = c .before .before .before .before .before .before .before .before .before .before .before in
-    let R = bare-room _ (s .pre .0 .2) _ _ _ (s .args .memory .now) (s .args .bytes .now) (s .pre .0 .0) (s .pre .0 .1) _ (s .pre .1) in
+    let R = bare-room _ (s .pre .1) _ _ _ (s .args .memory .now) (s .args .bytes .now) (s .pre .0 .inStep) (s .pre .0 .begun) _ (s .pre .0 .room) in
     omega (arith, R .1 .output, R .2)
 
 at-block-requires-2 : tie.Need-at-block-requires-2
@@ -41,7 +41,7 @@ returns-2 c =
     let w = c .before .before .before .before .before .before .before in
     let s = w .before .before .before .before .before in
     rw (c .at-block2 .ensures, c .before .before .at-block .ensures)
-    (bare-done _ (s .pre .0 .2) _ _ _ _ _ (s .pre .0 .0) (s .pre .0 .1) (w .before .before .if1 .left) _ _ (w .scatter .ensures))
+    (bare-done _ (s .pre .1) _ _ _ _ _ (s .pre .0 .inStep) (s .pre .0 .begun) (w .before .before .if1 .left) _ _ (w .scatter .ensures))
 
 pub feed-bare-spec : {M : Type 1} → statement M
 feed-bare-spec =

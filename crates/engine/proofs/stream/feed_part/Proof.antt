@@ -10,7 +10,7 @@ settle-requires : tie.Need-settle-requires
 settle-requires c κs =
     let a = c .before .before .before in
     let s = a .before .before .before .before in
-    arrived-room _ _ (s .args .part .now) (s .pre .1 .1) (s .pre .1 .0) _ _ _ _ _ (a .arrive .ensures) (s .pre .0) (s .pre .1 .2)
+    arrived-room _ _ (s .args .part .now) (s .pre .1 .1) (s .pre .1 .0) _ _ _ _ _ (a .arrive .ensures) (s .pre .0 .inStep) (s .pre .0 .room)
 
 same-length : tie.Need-same-length
 same-length c = search needs

@@ -17,7 +17,7 @@ abbrev μ-loop : tie.MeasureT-loop
 μ-loop rule l memory₀ bytes q₀ rest₀ memory q rest = length rest
 
 loop-holds : tie.Need-loop-holds Inv-loop μ-loop
-loop-holds c = going-start _ _ _ _ _ _ _ refl (c .before .before .pre .0 .0) (c .before .before .pre .0 .1) (c .before .before .pre .1)
+loop-holds c = going-start _ _ _ _ _ _ _ refl (c .before .before .pre)
 
 part-length-requires : tie.Need-part-length-requires Inv-loop μ-loop
 part-length-requires c κs = (c .before .loop .inv .inStep, c .before .loop .inv .begun, c .loop-test .taken)
@@ -35,7 +35,7 @@ feed-part-requires : tie.Need-feed-part-requires Inv-loop μ-loop
 feed-part-requires c κs =
     let n = c .before .before .part-length in
     let i = c .before .before .before .before .loop .inv in
-    (i .inStep, rw (sub-zero (n .result)) (part-asks _ _ _ _ _ _ _ _ _ i (n .result) (n .ensures .1) (n .ensures .2) (n .ensures .0)))
+    rw (sub-zero (n .result)) (part-asks _ _ _ _ _ _ _ _ _ i (n .result) (n .ensures .1) (n .ensures .2) (n .ensures .0))
 
 sub-rest : tie.Need-sub-rest Inv-loop μ-loop
 sub-rest c = omega (arith, c .before .before .before .before .before .part-length .ensures .2)

@@ -7,7 +7,7 @@ use lib.ListN.{length, drop, getD, length-map}
 use Rattle.layout.specs.Pieces.{from, inUse, pieces, span, placesOf, places}
 use Rattle.layout.specs.Steps.{none}
 use Rattle.layout.proofs.AnswerLaws.{length-in-use}
-use Rattle.layout.proofs.CursorLaws.{repeat-start, stands-behind, piece-ends, stands-at, ahead-at, pass, span-left, span-none}
+use Rattle.layout.proofs.CursorLaws.{repeat-start, stands-behind, piece-ends, stands-at, ahead-at, pass, span-left, span-passed}
 use Rattle.layout.proofs.walking.find.Statement.{statement}
 use Rattle.layout.proofs.walking.find.Tie as tie
 
@@ -92,7 +92,7 @@ returns-2 c =
     let l = c .before .loop in
     let s = c .before .before in
     let all : l .i ≡ s .args .t1 .used = omega (arith, c .loop-test .left, l .inv .0) in
-    let none-left : l .y ≡ 0 = omega (arith, l .inv .1, span-none (s .args .t1 .used) (s .args .t1 .entries) (l .i) (omega (arith, all))) in
+    let none-left : l .y ≡ 0 = omega (arith, l .inv .1, span-passed (s .args .t1 .used) (s .args .t1 .entries) (l .i) (omega (arith, all))) in
     record {
       stands = stands-behind (s .args .t1) (used s) (s .args .r) (s .args .t1 .used) (omega (arith, s .pre .1)) (omega arith);
       on = rw (all, none-left) at (l .inv .2);

@@ -4,13 +4,13 @@ use Prim.Native.Nat.{_-_}
 use native.Mathlib.Omega.{arith}
 use lib.ListN.{length}
 use Rattle.layout.specs.Pieces.{pieces}
-use Rattle.layout.specs.Cursors.{nextPiece, ahead, Stands}
+use Rattle.layout.specs.Cursors.{nextPiece, ahead, InLayout}
 use Rattle.layout.proofs.CursorLaws.{all-next, more-pieces}
 use Rattle.layout.proofs.walking.ready.Statement.{statement}
 use Rattle.layout.proofs.walking.ready.Tie as tie
 
 abbrev Inv-loop : tie.InvT-loop
-Inv-loop l d₀ d = Stands l d × (ahead l d ≡ ahead l d₀)
+Inv-loop l d₀ d = InLayout l d × (ahead l d ≡ ahead l d₀)
 
 abbrev μ-loop : tie.MeasureT-loop
 μ-loop l d₀ d = length (pieces l) - nextPiece l d

@@ -4,7 +4,7 @@ use lib.ListN.{length}
 use Rattle.layout.specs.Cursors.{Walked}
 use Rattle.engine.specs.Parts as parts
 use Rattle.packets.specs.Sessions.{ruleOf, takenBy, wireLength}
-use Rattle.packets.proofs.PacketLaws.{packet-told, packet-refused, packet-at, packet-room, packet-taken, packet-written, packet-done, session-in-step}
+use Rattle.packets.proofs.PacketLaws.{packet-told, packet-refused, packet-at, packet-feeds, packet-taken, packet-written, packet-done}
 use borrow.Author.Needs.{needs}
 use Rattle.packets.proofs.packing.packet.Statement.{statement}
 use Rattle.packets.proofs.packing.packet.Tie as tie
@@ -66,8 +66,7 @@ feed-requires c κs =
     let w = c .before in
     let r = w .before .before .before in
     let s = r .before .before .before .before .before .before .before .before .before .before in
-    rw (r .receive-rule .ensures)
-    (session-in-step _ (s .pre), packet-room _ (s .pre) (s .args .bytes .now) (told r .1) _ (told r .0) _ (stands w))
+    rw (r .receive-rule .ensures) (packet-feeds _ (s .pre) (s .args .bytes .now) (told r .1) _ (told r .0) _ (stands w))
 
 taken-requires : tie.Need-taken-requires
 taken-requires c κs =

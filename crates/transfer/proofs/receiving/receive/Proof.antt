@@ -1,6 +1,9 @@
-use mathlib.Core.Path.{sym, _∙_}
+use mathlib.Core.Path.{_≡_, sym, _∙_}
 use native.Mathlib.Nat.{sub-zero}
-use Rattle.transfer.proofs.Laws.{accept, walkable, receive-refused, receive-asks, receive-gives}
+use lib.ListN.{length}
+use Rattle.key.specs.declared.Outcome.the-variants.{Done}
+use Rattle.transfer.specs.Transferring.{answerOf}
+use Rattle.transfer.proofs.Laws.{Accepted, accept, walkable, receive-refused, receive-asks, receive-gives}
 use borrow.Author.Needs.{needs}
 use Rattle.transfer.proofs.receiving.receive.Statement.{statement}
 use Rattle.transfer.proofs.receiving.receive.Tie as tie
@@ -26,15 +29,20 @@ returns c = rw (c .refused .ensures) (receive-refused _ _ _ _ _ _ _ (c .before .
 receive-rule-requires : tie.Need-receive-rule-requires
 receive-rule-requires c κs = search needs
 
+-- the transfer was accepted
+done : (r : tie.After-receive-rule) → let a = r .before .before .before .before .before .before .before .before .before .args in answerOf (a .key) (a .memory .now) (a .wire .now) (a .offset .0) (a .data-length) ≡ Done
+done r =
+    let t = r .before .before .before in
+    sym (t .before .before .admit-transfer .ensures) ∙ t .enum-told .given .1
+
+accepted : (r : tie.After-receive-rule) → let a = r .before .before .before .before .before .before .before .before .before .args in Accepted (a .key) (length (a .memory .now)) (a .offset .0) (a .data-length) (length (a .wire .now))
+accepted r = accept _ _ _ _ _ (r .before .before .before .before .before .before .before .before .before .pre) (done r)
+
 stream-length-requires : tie.Need-stream-length-requires
-stream-length-requires c κs =
-    let a = c .before .before .before .before .before in
-    accept _ _ _ _ _ (a .before .before .before .before .pre) (sym (a .admit-transfer .ensures) ∙ c .before .before .before .enum-told .given .1) .measured .1
+stream-length-requires c κs = accepted c .measured .1
 
 walk-requires : tie.Need-walk-requires
-walk-requires c κs =
-    let a = c .before .before .before .before .before .before in
-    walkable (accept _ _ _ _ _ (a .before .before .before .before .pre) (sym (a .admit-transfer .ensures) ∙ c .before .before .before .before .enum-told .given .1) .admitted)
+walk-requires c κs = walkable (accepted (c .before) .admitted)
 
 begin-requires : tie.Need-begin-requires
 begin-requires c κs = search needs
@@ -46,24 +54,18 @@ part-feed-start : tie.Need-part-feed-start
 part-feed-start c = search needs
 
 part-feed-end : tie.Need-part-feed-end
-part-feed-end c =
-    let a = c .before .before .before .before .before .before .before .before .before in
-    let A = accept _ _ _ _ _ (a .before .before .before .before .pre) (sym (a .admit-transfer .ensures) ∙ c .before .before .before .before .before .before .before .enum-told .given .1) in
-    rw (c .before .before .before .stream-length .ensures) (A .wire)
+part-feed-end c = rw (c .before .before .before .stream-length .ensures) (accepted (c .before .before .before .before) .wire)
 
 feed-requires : tie.Need-feed-requires
 feed-requires c κs =
-    let d = c .before .before in
-    let a = d .before .before .before .before .before .before .before .before in
-    let s = a .before .before .before .before in
-    rw (d .begin .ensures, d .before .before .before .receive-rule .ensures, d .before .before .stream-length .ensures, sub-zero _)
-    (receive-asks _ (s .args .memory .now) (s .args .wire .now) _ _ (s .pre) (sym (a .admit-transfer .ensures) ∙ d .before .before .before .before .before .before .enum-told .given .1)
-    (λ i. a .before .before .shared-slice-known .given i .fits) _ (d .before .walk .ensures))
+    let w = c .before .before .before in
+    let r = w .before .before in
+    let s = r .before .before .before .before .before .before .before .before .before in
+    rw (c .before .before .begin .ensures, r .receive-rule .ensures, w .before .stream-length .ensures, sub-zero _)
+    (receive-asks _ (s .args .memory .now) (s .args .wire .now) _ _ (s .pre) (done r) (λ i. r .before .before .before .before .before .before .before .shared-slice-known .given i .fits) _ (w .walk .ensures))
 
 stream-length-requires-2 : tie.Need-stream-length-requires-2
-stream-length-requires-2 c κs =
-    let a = c .before .before .before .before .before .before .before .before .before .before .before .before .before .before in
-    accept _ _ _ _ _ (a .before .before .before .before .pre) (sym (a .admit-transfer .ensures) ∙ c .before .before .before .before .before .before .before .before .before .before .before .before .enum-told .given .1) .measured .0
+stream-length-requires-2 c κs = accepted (c .before .before .before .before .before .before .before .before .before) .measured .0
 
 record-requires : tie.Need-record-requires
 record-requires c κs = search needs
@@ -74,13 +76,12 @@ same-length-2 c = search needs
 returns-2 : tie.Need-returns-2
 returns-2 c =
     let f = c .before .before .before .before .before in
-    let d = f .before .before .before in
-    let a = d .before .before .before .before .before .before .before .before in
-    let s = a .before .before .before .before in
-    rw (c .«record» .ensures, c .before .stream-length2 .ensures, d .before .before .stream-length .ensures)
-    (receive-gives _ (s .args .memory .now) (s .args .wire .now) _ _ (s .pre) (sym (a .admit-transfer .ensures) ∙ d .before .before .before .before .before .before .enum-told .given .1)
-    (λ i. a .before .before .shared-slice-known .given i .fits) _ (d .before .walk .ensures) _ _
-    (rw (d .begin .ensures, d .before .before .before .receive-rule .ensures, d .before .before .stream-length .ensures, sub-zero _) at (f .feed .ensures)))
+    let w = f .before .before .before .before in
+    let r = w .before .before in
+    let s = r .before .before .before .before .before .before .before .before .before in
+    rw (c .«record» .ensures, c .before .stream-length2 .ensures, w .before .stream-length .ensures)
+    (receive-gives _ (s .args .memory .now) (s .args .wire .now) _ _ (s .pre) (done r) (λ i. r .before .before .before .before .before .before .before .shared-slice-known .given i .fits) _ (w .walk .ensures) _ _
+    (rw (f .before .before .before .begin .ensures, r .receive-rule .ensures, w .before .stream-length .ensures, sub-zero _) at (f .feed .ensures)))
 
 pub receive-spec : {M : Type 1} → statement M
 receive-spec =

@@ -1,4 +1,9 @@
-use mathlib.Core.Path.{sym, _∙_}
+use mathlib.Core.Path.{_≡_, sym, _∙_}
+use lib.ListN.{length}
+use Rattle.guard.specs.Guards.{Bytes}
+use Rattle.key.specs.declared.Outcome.the-variants.{Done}
+use Rattle.key.specs.Streams.{Measured}
+use Rattle.transfer.specs.Transferring.{answerOf}
 use Rattle.transfer.proofs.Laws.{accept}
 use Rattle.transfer.proofs.SendLaws.{send-refused, send-small, send-asks, send-gives}
 use borrow.Author.Needs.{needs}
@@ -26,37 +31,38 @@ returns c = rw (c .refused .ensures) (send-refused _ _ _ _ _ _ _ (c .before .bef
 send-rule-requires : tie.Need-send-rule-requires
 send-rule-requires c κs = search needs
 
+-- the transfer was accepted
+done : (r : tie.After-send-rule) → let a = r .before .before .before .before .before .before .before .before .before .args in answerOf (a .key) (a .memory .now) (a .wire .now) (a .offset .0) (a .data-length) ≡ Done
+done r =
+    let t = r .before .before .before in
+    sym (t .before .before .admit-transfer .ensures) ∙ t .enum-told .given .1
+
+measured : (r : tie.After-send-rule) → let a = r .before .before .before .before .before .before .before .before .before .args in Measured (a .key .signature .memory) (a .data-length) × Measured (a .key .signature .wire) (a .data-length)
+measured r =
+    let s = r .before .before .before .before .before .before .before .before .before in
+    accept _ (length (s .args .memory .now)) (s .args .offset .0) _ (length (s .args .wire .now)) (s .pre) (done r) .measured
+
+bytes : (r : tie.After-send-rule) → Bytes (r .before .before .before .before .before .before .before .before .before .args .memory .now)
+bytes r i = r .before .before .before .before .before .before .before .before .shared-slice-known .given i .fits
+
 stream-length-requires : tie.Need-stream-length-requires
-stream-length-requires c κs =
-    let t = c .before .before .before in
-    let a = t .before .before in
-    accept _ _ _ _ _ (a .before .before .before .before .pre) (sym (a .admit-transfer .ensures) ∙ t .enum-told .given .1) .measured .0
+stream-length-requires c κs = measured c .0
 
 stream-length-requires-2 : tie.Need-stream-length-requires-2
-stream-length-requires-2 c κs =
-    let t = c .before .before .before .before in
-    let a = t .before .before in
-    accept _ _ _ _ _ (a .before .before .before .before .pre) (sym (a .admit-transfer .ensures) ∙ t .enum-told .given .1) .measured .1
+stream-length-requires-2 c κs = measured (c .before) .1
 
 first-bytes-requires : tie.Need-first-bytes-requires
 first-bytes-requires c κs =
-    let f = c .before .before in
-    let t = f .before .before .before in
-    let a = t .before .before in
-    let s = a .before .before .before .before in
-    rw (c .stream-length2 .ensures)
-    (send-small _ (s .args .memory .now) (s .args .wire .now) _ _ (s .pre) (sym (a .admit-transfer .ensures) ∙ t .enum-told .given .1)
-    (λ i. a .before .before .before .shared-slice-known .given i .fits))
+    let r = c .before .before in
+    let s = r .before .before .before .before .before .before .before .before .before in
+    rw (c .stream-length2 .ensures) (send-small _ (s .args .memory .now) (s .args .wire .now) _ _ (s .pre) (done r) (bytes r))
 
 draw-requires : tie.Need-draw-requires
 draw-requires c κs =
-    let f = c .before .before .before .before in
-    let t = f .before .before .before in
-    let a = t .before .before in
-    let s = a .before .before .before .before in
-    rw (c .before .first-bytes .ensures, c .before .before .stream-length2 .ensures, c .before .before .before .stream-length .ensures, f .send-rule .ensures)
-    (send-asks _ (s .args .memory .now) (s .args .wire .now) _ _ (s .pre) (sym (a .admit-transfer .ensures) ∙ t .enum-told .given .1)
-    (λ i. a .before .before .before .shared-slice-known .given i .fits))
+    let r = c .before .before .before .before in
+    let s = r .before .before .before .before .before .before .before .before .before in
+    rw (c .before .first-bytes .ensures, c .before .before .stream-length2 .ensures, c .before .before .before .stream-length .ensures, r .send-rule .ensures)
+    (send-asks _ (s .args .memory .now) (s .args .wire .now) _ _ (s .pre) (done r) (bytes r))
 
 record-requires : tie.Need-record-requires
 record-requires c κs = search needs
@@ -67,14 +73,11 @@ same-length-2 c = search needs
 returns-2 : tie.Need-returns-2
 returns-2 c =
     let l = c .before .before .before .before .before in
-    let f = l .before .before .before in
-    let t = f .before .before .before in
-    let a = t .before .before in
-    let s = a .before .before .before .before in
+    let r = l .before .before .before in
+    let s = r .before .before .before .before .before .before .before .before .before in
     rw (c .«record» .ensures, l .before .stream-length2 .ensures, l .before .before .stream-length .ensures)
-    (send-gives _ (s .args .memory .now) (s .args .wire .now) _ _ (s .pre) (sym (a .admit-transfer .ensures) ∙ t .enum-told .given .1)
-    (λ i. a .before .before .before .shared-slice-known .given i .fits) _ _
-    (rw (l .first-bytes .ensures, l .before .stream-length2 .ensures, l .before .before .stream-length .ensures, f .send-rule .ensures) at (c .before .before .before .draw .ensures)))
+    (send-gives _ (s .args .memory .now) (s .args .wire .now) _ _ (s .pre) (done r) (bytes r) _ _
+    (rw (l .first-bytes .ensures, l .before .stream-length2 .ensures, l .before .before .stream-length .ensures, r .send-rule .ensures) at (c .before .before .before .draw .ensures)))
 
 pub send-spec : {M : Type 1} → statement M
 send-spec =
