@@ -104,12 +104,13 @@ void print_transfers(struct effort effort, struct findings *f) {
 
 void print_calls(struct effort effort, struct findings *f) {
     static const size_t pieces[] = {1, 16, MANY_PIECES};
-    printf("\n## What a packet costs whatever its length, in ns, nothing signed\n\n"
-           "A call that only hands the session over and back, in C; ours without a byte; ours with %d bytes; and the\n"
-           "share of so many bytes in one receive. No call that takes and gives a session by value can cost less than\n"
-           "the first. Least: the first and the last, to the last.\n\n"
-           "| pieces | handed over |   empty | %d bytes | in one receive | least |\n|---:|---:|---:|---:|---:|---:|\n",
-           PACKET, PACKET);
+    printf(
+        "\n## What a packet costs whatever its length, in ns, nothing signed\n\n"
+        "A call that only hands the session over and back, in C; ours without a byte; ours with %d bytes; and the\n"
+        "share of so many bytes in one receive. Built as here, no call that takes and gives a session by value costs\n"
+        "less than the first. Least: the first and the last, to the last.\n\n"
+        "| pieces | handed over |   empty | %d bytes | in one receive | least |\n|---:|---:|---:|---:|---:|---:|\n",
+        PACKET, PACKET);
     for (size_t i = 0; i < sizeof pieces / sizeof *pieces; i++) {
         struct scene s = scene_made((struct shape){PLAIN, 4096, 256, pieces[i]});
         struct times t = measured(&s, RECEIVE, effort);

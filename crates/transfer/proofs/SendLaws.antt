@@ -38,7 +38,7 @@ use Rattle.transfer.specs.declared.Transferred.{Transferred}
 use Rattle.transfer.specs.Rules.{sendRule, outputOf}
 use Rattle.transfer.specs.Transferring.{memoryStream, answered, answerOf, sending, wireSent}
 use Rattle.transfer.proofs.Laws.{Accepted, accept, Whole, whole, ready}
-use Rattle.transfer.specs.Sending.{onePiece, firstBytes, Drawable, Drawing, Drawn}
+use Rattle.transfer.specs.Sending.{onePiece, bytesAt, Drawable, Drawing, Drawn}
 
 -- ---- runs of a stream
 
@@ -62,7 +62,7 @@ part-of (suc n) (suc d) k [] h = refl
 part-of (suc n) (suc d) k (p ∷ ps) h = part-of n d k ps (omega arith)
 
 -- the first k bytes of a run behind d bytes are the next of the stream
-run-part : (memory ps : List ℕ) (n d left k : ℕ) → k ≤ left → d + k ≤ n → take k (gathered memory (take left (drop d ps))) ≡ take k (drop d (firstBytes memory ps n))
+run-part : (memory ps : List ℕ) (n d left k : ℕ) → k ≤ left → d + k ≤ n → take k (gathered memory (take left (drop d ps))) ≡ take k (drop d (bytesAt memory ps n))
 run-part memory ps n d left k a b =
     gathered-take k memory _ ∙ ap (gathered memory) (take-take k left (drop d ps) a ∙ sym (part-of n d k ps b))
     ∙ sym (ap (take k) (gathered-drop d memory (take n ps)) ∙ gathered-take k memory (drop d (take n ps)))
@@ -79,7 +79,7 @@ module _ (r : Rule) (l : Layout) (memory : List ℕ) (x n : ℕ) (to : Layout) (
         most = omega arith;
         going =
             rw e
-            (going-start r (begun r Empty) to first before (firstBytes memory (ahead l start) n) (length before) refl
+            (going-start r (begun r Empty) to first before (bytesAt memory (ahead l start) n) (length before) refl
             (record { inStep = D .inStep; begun = D .some; room = room-at _ _ _ 0 first _ _ (D .target) F (omega arith) (rw (S .on) (omega (arith, D .room))) (D .small) }));
         stands = S .stands;
         on = refl;
@@ -95,7 +95,7 @@ module _ (r : Rule) (l : Layout) (memory : List ℕ) (x n : ℕ) (to : Layout) (
       size : length run ≡ c′ .left
       size = ap length e ∙ run-length l c′ memory (R .stands) (D .placed)
 
-      same : take k run ≡ take k (drop d (firstBytes memory (ahead l start) n))
+      same : take k run ≡ take k (drop d (bytesAt memory (ahead l start) n))
       same =
           ap (take k) (e ∙ run-gathered l c′ memory (R .stands) (D .placed) ∙ ap (λ (ps : List ℕ). gathered memory (take (c′ .left) ps)) (R .same ∙ g .on))
           ∙ run-part memory (ahead l start) n d (c′ .left) k (omega (arith, size)) (omega arith)
@@ -104,14 +104,14 @@ module _ (r : Rule) (l : Layout) (memory : List ℕ) (x n : ℕ) (to : Layout) (
       draw-some = (omega (arith, size, R .some), omega (arith, size), omega arith)
 
       pub draw-asks : Feedable r (q .progress) to (q .cursor) (length mid) (take k run)
-      draw-asks = rw same (part-feedable r (begun r Empty) to first before (firstBytes memory (ahead l start) n) q mid (drop d (firstBytes memory (ahead l start) n)) (g .going) k)
+      draw-asks = rw same (part-feedable r (begun r Empty) to first before (bytesAt memory (ahead l start) n) q mid (drop d (bytesAt memory (ahead l start) n)) (g .going) k)
 
       pub draw-turn : (q′ : Fed) (mid′ : List ℕ) → Feeds r (q .progress) to (q .cursor) mid (take k run) q′ mid′ → Drawing r l memory start n to first before q′ (forward c′ k) (d + k) mid′
       draw-turn q′ mid′ f = record {
         most = draw-some .2;
         going =
-            rw (← drop-drop k d (firstBytes memory (ahead l start) n))
-            (going-turn r (begun r Empty) to first before (firstBytes memory (ahead l start) n) q mid (drop d (firstBytes memory (ahead l start) n)) (g .going) k q′ mid′ (rw same at f));
+            rw (← drop-drop k d (bytesAt memory (ahead l start) n))
+            (going-turn r (begun r Empty) to first before (bytesAt memory (ahead l start) n) q mid (drop d (bytesAt memory (ahead l start) n)) (g .going) k q′ mid′ (rw same at f));
         stands = forward-stands l c′ (R .stands) k (draw-some .1);
         on = forward-ahead l c′ (R .stands) k (draw-some .1) ∙ ap (drop k) (R .same ∙ g .on) ∙ drop-drop k d (ahead l start);
       }
@@ -119,9 +119,9 @@ module _ (r : Rule) (l : Layout) (memory : List ℕ) (x n : ℕ) (to : Layout) (
   -- all is drawn
   pub draw-end : (q : Fed) (c : Cursor) (d : ℕ) (after : List ℕ) → d ≡ n → Drawing r l memory start n to first before q c d after → Drawn r l memory x n to before (q .progress .slot) after
   draw-end q c d after e g =
-      let all : length (drop d (firstBytes memory (ahead l start) n)) ≡ 0 =
-      length-drop d (firstBytes memory (ahead l start) n) ∙ rw (length-gathered memory (take n (ahead l start)), length-take n (ahead l start)) (omega (arith, e)) in
-      let f = rw (S .on) at (going-end r (begun r Empty) to first before (firstBytes memory (ahead l start) n) q after (drop d (firstBytes memory (ahead l start) n)) (g .going) all) in
+      let all : length (drop d (bytesAt memory (ahead l start) n)) ≡ 0 =
+      length-drop d (bytesAt memory (ahead l start) n) ∙ rw (length-gathered memory (take n (ahead l start)), length-take n (ahead l start)) (omega (arith, e)) in
+      let f = rw (S .on) at (going-end r (begun r Empty) to first before (bytesAt memory (ahead l start) n) q after (drop d (bytesAt memory (ahead l start) n)) (g .going) all) in
       record { error = ap (λ (p : Progress). p .slot) (f .progress); wire = f .stored .memory ∙ rw (F .on) }
 
 -- ---- an accepted send

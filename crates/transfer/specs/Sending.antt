@@ -21,8 +21,8 @@ abbrev pub onePiece : ℕ → Layout
 onePiece n = record { entries = replicate 16 (record { start = record { 0 = 0 }; count = n; skip = 0 }); used = 1; repeat = 1 }
 
 -- the bytes at the first n of these places
-abbrev pub firstBytes : List ℕ → List ℕ → ℕ → List ℕ
-firstBytes memory ps n = gathered memory (take n ps)
+abbrev pub bytesAt : List ℕ → List ℕ → ℕ → List ℕ
+bytesAt memory ps n = gathered memory (take n ps)
 
 -- What drawing n layout bytes asks: that they lie in memory, and that the output has room.
 pub record Drawable (r : Rule) (l : Layout) (memory : List ℕ) (x n : ℕ) (to : Layout) (wire : ℕ) : Type 0 where
@@ -32,17 +32,17 @@ pub record Drawable (r : Rule) (l : Layout) (memory : List ℕ) (x n : ℕ) (to 
   pub some : 0 < inUnit r
   pub target : Placed to wire
   pub near : Placed to (2 ^ 64 - 1)
-  pub room : length (emitted r (begun r Empty) (firstBytes memory (drop x (places l)) n)) ≤ total to
+  pub room : length (emitted r (begun r Empty) (bytesAt memory (drop x (places l)) n)) ≤ total to
   pub small : total to ≤ 2 ^ 40
 
 -- On the way from one cursor to another: d bytes are drawn, and the rest lies ahead.
 pub record Drawing (r : Rule) (l : Layout) (memory : List ℕ) (start : Cursor) (n : ℕ) (to : Layout) (first : Cursor) (before : List ℕ) (q : Fed) (c : Cursor) (d : ℕ) (mid : List ℕ) : Type 0 where
   pub most : d ≤ n
-  pub going : Going r (begun r Empty) to first before (firstBytes memory (ahead l start) n) q mid (drop d (firstBytes memory (ahead l start) n))
+  pub going : Going r (begun r Empty) to first before (bytesAt memory (ahead l start) n) q mid (drop d (bytesAt memory (ahead l start) n))
   pub stands : InLayout l c
   pub on : ahead l c ≡ drop d (ahead l start)
 
 -- What it gives: the first error, and the output in its places.
 pub record Drawn (r : Rule) (l : Layout) (memory : List ℕ) (x n : ℕ) (to : Layout) (before : List ℕ) (found : Slot) (after : List ℕ) : Type 0 where
-  pub error : found ≡ fed r (begun r Empty) (firstBytes memory (drop x (places l)) n) .slot
-  pub wire : after ≡ scattered before (places to) (emitted r (begun r Empty) (firstBytes memory (drop x (places l)) n))
+  pub error : found ≡ fed r (begun r Empty) (bytesAt memory (drop x (places l)) n) .slot
+  pub wire : after ≡ scattered before (places to) (emitted r (begun r Empty) (bytesAt memory (drop x (places l)) n))
