@@ -127,7 +127,8 @@ typedef struct {
     uint32_t error_type;
     uint32_t error_actual;
     uint32_t error_expected;
-    uint64_t error_offset;
+    uint32_t error_offset;
+    uint32_t spare;
 } garoalva_key;
 
 /* A received transfer under way: the library's own record. */
@@ -147,7 +148,8 @@ typedef struct {
     uint32_t error_type;
     uint32_t error_actual;
     uint32_t error_expected;
-    uint64_t error_offset;
+    uint32_t error_offset;
+    uint32_t spare;
     uint8_t held[8];
 } garoalva_session;
 

@@ -61,7 +61,8 @@ pub struct Key {
     error_type: u32,
     error_actual: u32,
     error_expected: u32,
-    error_offset: u64,
+    error_offset: u32,
+    spare: u32,
 }
 
 #[derive(Clone, Copy)]
@@ -82,7 +83,8 @@ pub struct Session {
     error_type: u32,
     error_actual: u32,
     error_expected: u32,
-    error_offset: u64,
+    error_offset: u32,
+    spare: u32,
     held: [u8; 8],
 }
 

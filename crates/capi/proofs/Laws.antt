@@ -24,10 +24,11 @@ use Rattle.transfer.specs.Transferring.{memoryStream, wireStream, answered, ans
 use Rattle.packets.specs.declared.Session.{Session}
 use Rattle.packets.specs.Sessions.{ruleOf, underway, Underway, SessionFromCalls, packetAnswer, further, packedBy, packing}
 use Rattle.packets.proofs.PacketLaws.{underway-told, underway-passes, came-underway}
+use Rattle.capi.specs.declared.SignatureRecord.{SignatureRecord}
 use Rattle.capi.specs.declared.KeyRecord.{KeyRecord}
 use Rattle.capi.specs.declared.SessionRecord.{SessionRecord}
 use Rattle.capi.specs.declared.converting.Numbers.{Numbers}
-use Rattle.capi.specs.Records.{keySeal, sessionSeal, numbersOf, slotIn, alike, flag, isFlag, proper, keyNumbers, keyIn, keyRecord, isKey, sessionNumbers, sessionIn, sessionRecord, isSession}
+use Rattle.capi.specs.Records.{keySeal, sessionSeal, signatureRecord, signatureIn, numbersOf, slotIn, alike, flag, isFlag, proper, keyNumbers, keyIn, keyRecord, isKey, sessionNumbers, sessionIn, sessionRecord, isSession}
 
 both : (a b : Bool) → a && b ≡ true → (a ≡ true) × (b ≡ true)
 both true b h = (refl, h)
@@ -82,30 +83,36 @@ proper-passes s = rw (slot-round s) (alike-self (numbersOf s))
 pub record KeyTold (r : KeyRecord) : Type 0 where
   pub seal : r .seal ≡ keySeal
   pub configured : r .configured ≡ flag (eqb (r .configured) 1)
-  pub spare : r .signature .spare ≡ 0
+  pub signature : r .signature .spare ≡ 0
+  pub spare : r .spare ≡ 0
   pub numbers : keyNumbers r ≡ numbersOf (slotIn (keyNumbers r))
   pub usable : Usable (keyIn r)
 
 pub key-told : (r : KeyRecord) → isKey r ≡ true → KeyTold r
 unfolding isKey
 key-told r h =
-    let a = both (eqb (r .seal) keySeal && isFlag (r .configured) && eqb (r .signature .spare) 0 && proper (keyNumbers r)) (usable (keyIn r)) h in
-    let b = both (eqb (r .seal) keySeal && isFlag (r .configured) && eqb (r .signature .spare) 0) (proper (keyNumbers r)) (a .0) in
-    let c = both (eqb (r .seal) keySeal && isFlag (r .configured)) (eqb (r .signature .spare) 0) (b .0) in
-    let d = both (eqb (r .seal) keySeal) (isFlag (r .configured)) (c .0) in
+    let a = both (eqb (r .seal) keySeal && isFlag (r .configured) && eqb (r .signature .spare) 0 && eqb (r .spare) 0 && proper (keyNumbers r)) (usable (keyIn r)) h in
+    let b = both (eqb (r .seal) keySeal && isFlag (r .configured) && eqb (r .signature .spare) 0 && eqb (r .spare) 0) (proper (keyNumbers r)) (a .0) in
+    let c = both (eqb (r .seal) keySeal && isFlag (r .configured) && eqb (r .signature .spare) 0) (eqb (r .spare) 0) (b .0) in
+    let d = both (eqb (r .seal) keySeal && isFlag (r .configured)) (eqb (r .signature .spare) 0) (c .0) in
+    let f = both (eqb (r .seal) keySeal) (isFlag (r .configured)) (d .0) in
     record {
-      seal = eqb-true (r .seal) keySeal (d .0);
-      configured = eqb-true (r .configured) (flag (eqb (r .configured) 1)) (d .1);
-      spare = eqb-true (r .signature .spare) 0 (c .1);
+      seal = eqb-true (r .seal) keySeal (f .0);
+      configured = eqb-true (r .configured) (flag (eqb (r .configured) 1)) (f .1);
+      signature = eqb-true (r .signature .spare) 0 (d .1);
+      spare = eqb-true (r .spare) 0 (c .1);
       numbers = alike-told (keyNumbers r) (numbersOf (slotIn (keyNumbers r))) (b .1);
       usable = a .1;
     }
+
+signature-back : (s : SignatureRecord) → s .spare ≡ 0 → signatureRecord (signatureIn s) ≡ s
+signature-back s h = rw (sym h) refl
 
 -- Turned into a key and back it is itself: a refused call hands it back as it was.
 pub key-back : (r : KeyRecord) → isKey r ≡ true → keyRecord (keyIn r) ≡ r
 key-back r h =
     let t = key-told r h in
-    rw (sym (t .numbers), ← t .configured, sym (t .seal), sym (t .spare)) refl
+    rw (sym (t .numbers), ← t .configured, sym (t .seal), signature-back (r .signature) (t .signature), sym (t .spare)) refl
 
 -- A transfer changes nothing of a key but its slot.
 slot-changed : (o : Outcome) (k : Key) (taken written : ℕ) (e : Slot) → let t = answered o k taken written e in t .key ≡ withSlot k (t .key .slot)
@@ -137,16 +144,17 @@ pub session-told : (r : SessionRecord) → isSession r ≡ true → length (r .h
 unfolding isSession
 session-told r h e =
     let a = both (isKey (r .key)) _ h in
-    let b = both (eqb (r .seal) sessionSeal && isFlag (r .«input_odd») && isFlag (r .«output_odd») && proper (sessionNumbers r)) (underway (sessionIn r)) (a .1) in
+    let b = both (eqb (r .seal) sessionSeal && isFlag (r .«input_odd») && isFlag (r .«output_odd») && eqb (r .spare) 0 && proper (sessionNumbers r)) (underway (sessionIn r)) (a .1) in
     underway-told (sessionIn r) (key-told (r .key) (a .0) .usable) (b .1) e
 
 pub session-back : (r : SessionRecord) → isSession r ≡ true → sessionRecord (sessionIn r) ≡ r
 unfolding isSession
 session-back r h =
     let a = both (isKey (r .key)) _ h in
-    let b = both (eqb (r .seal) sessionSeal && isFlag (r .«input_odd») && isFlag (r .«output_odd») && proper (sessionNumbers r)) (underway (sessionIn r)) (a .1) in
-    let c = both (eqb (r .seal) sessionSeal && isFlag (r .«input_odd») && isFlag (r .«output_odd»)) (proper (sessionNumbers r)) (b .0) in
-    let d = both (eqb (r .seal) sessionSeal && isFlag (r .«input_odd»)) (isFlag (r .«output_odd»)) (c .0) in
+    let b = both (eqb (r .seal) sessionSeal && isFlag (r .«input_odd») && isFlag (r .«output_odd») && eqb (r .spare) 0 && proper (sessionNumbers r)) (underway (sessionIn r)) (a .1) in
+    let c = both (eqb (r .seal) sessionSeal && isFlag (r .«input_odd») && isFlag (r .«output_odd») && eqb (r .spare) 0) (proper (sessionNumbers r)) (b .0) in
+    let g = both (eqb (r .seal) sessionSeal && isFlag (r .«input_odd») && isFlag (r .«output_odd»)) (eqb (r .spare) 0) (c .0) in
+    let d = both (eqb (r .seal) sessionSeal && isFlag (r .«input_odd»)) (isFlag (r .«output_odd»)) (g .0) in
     let f = both (eqb (r .seal) sessionSeal) (isFlag (r .«input_odd»)) (d .0) in
     let i = eqb-true (r .«input_odd») (flag (eqb (r .«input_odd») 1)) (f .1) in
     let o = eqb-true (r .«output_odd») (flag (eqb (r .«output_odd») 1)) (d .1) in
@@ -156,6 +164,7 @@ session-back r h =
       ← i,
       ← o,
       sym (eqb-true (r .seal) sessionSeal (f .0)),
+      sym (eqb-true (r .spare) 0 (g .1)),
     ) refl
 
 -- A packet changes nothing of a session but its progress.

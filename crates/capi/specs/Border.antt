@@ -69,6 +69,7 @@ noSession k = record {
   «error_actual» = 0;
   «error_expected» = 0;
   «error_offset» = 0;
+  spare = 0;
   held = replicate 8 0;
 }
 

@@ -90,6 +90,7 @@ keyRecord k = record {
   «error_actual» = numbersOf (k .slot) .actual;
   «error_expected» = numbersOf (k .slot) .expected;
   «error_offset» = numbersOf (k .slot) .offset;
+  spare = 0;
 }
 
 -- The numbers of an error slot are those that a slot has: turning them into a slot and back gives them again.
@@ -98,7 +99,7 @@ proper n = alike n (numbersOf (slotIn n))
 
 -- A record is a key if it bears the seal, turning it into a key and back gives it again, and the key is one to work by.
 unfoldable pub isKey : KeyRecord → Bool
-isKey r = eqb (r .seal) keySeal && isFlag (r .configured) && eqb (r .signature .spare) 0 && proper (keyNumbers r) && usable (keyIn r)
+isKey r = eqb (r .seal) keySeal && isFlag (r .configured) && eqb (r .signature .spare) 0 && eqb (r .spare) 0 && proper (keyNumbers r) && usable (keyIn r)
 
 -- ---- sessions
 
@@ -136,10 +137,11 @@ sessionRecord s = record {
   «error_actual» = numbersOf (s .progress .slot) .actual;
   «error_expected» = numbersOf (s .progress .slot) .expected;
   «error_offset» = numbersOf (s .progress .slot) .offset;
+  spare = 0;
   held = s .progress .held;
 }
 
 -- The same of a session.
 unfoldable pub isSession : SessionRecord → Bool
 isSession r =
-    isKey (r .key) && (eqb (r .seal) sessionSeal && isFlag (r .«input_odd») && isFlag (r .«output_odd») && proper (sessionNumbers r) && underway (sessionIn r))
+    isKey (r .key) && (eqb (r .seal) sessionSeal && isFlag (r .«input_odd») && isFlag (r .«output_odd») && eqb (r .spare) 0 && proper (sessionNumbers r) && underway (sessionIn r))

@@ -27,7 +27,7 @@ pub(crate) struct Numbers {
     pub(crate) kind: u32,
     pub(crate) actual: u32,
     pub(crate) expected: u32,
-    pub(crate) offset: u64,
+    pub(crate) offset: u32,
 }
 
 pub(crate) fn numbers_of(slot: Slot) -> Numbers
@@ -165,6 +165,7 @@ pub(crate) fn key_record(k: Key) -> KeyRecord
         error_actual: n.actual,
         error_expected: n.expected,
         error_offset: n.offset,
+        spare: 0,
     }
 }
 
@@ -234,7 +235,7 @@ pub(crate) fn session_of(r: SessionRecord) -> Session
 
 // The record with another progress, which is all that a packet changes.
 pub(crate) fn with_progress(r: SessionRecord, progress: Progress) -> SessionRecord
-    requires { ⌜ (r .seal ≡ records.sessionSeal) × (records.keyRecord (records.keyIn (r .key)) ≡ r .key) ⌝ }
+    requires { ⌜ (r .seal ≡ records.sessionSeal) × (records.keyRecord (records.keyIn (r .key)) ≡ r .key) × (r .spare ≡ 0) ⌝ }
     ensures { λ s. ⌜ s ≡ records.sessionRecord (further (records.sessionIn r) progress) ⌝ }
 {
     let held = progress.held;
@@ -282,6 +283,7 @@ pub(crate) fn no_session(key: KeyRecord) -> SessionRecord
         error_actual: 0,
         error_expected: 0,
         error_offset: 0,
+        spare: 0,
         held: [0; 8],
     }
 }

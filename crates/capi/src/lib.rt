@@ -54,7 +54,8 @@ pub struct KeyRecord {
     pub error_type: u32,
     pub error_actual: u32,
     pub error_expected: u32,
-    pub error_offset: u64,
+    pub error_offset: u32,
+    pub spare: u32,
 }
 
 #[repr(C)]
@@ -74,7 +75,8 @@ pub struct SessionRecord {
     pub error_type: u32,
     pub error_actual: u32,
     pub error_expected: u32,
-    pub error_offset: u64,
+    pub error_offset: u32,
+    pub spare: u32,
     pub held: [u8; 8],
 }
 

@@ -16,6 +16,7 @@ use crate::converting::no_session;
 use crate::converting::session_of;
 use crate::converting::session_record;
 use crate::converting::with_progress;
+use crate::sealing::goes_on;
 use crate::sealing::is_key;
 use crate::sealing::is_session;
 use crate::transferring::wide;
@@ -78,17 +79,20 @@ pub extern "C" fn garoalva_packet(
     ensures { λ r. ⌜ r ≡ border.packetAtBorder session (length (now (memory .entry))) (now (bytes .entry)) ⌝ }
     ensures { λ _. ⌜ now (memory .exit) ≡ border.packetMemoryAtBorder session (now (memory .entry)) (now (bytes .entry)) ⌝ }
 {
-    if is_session(session) {
-        let p = packets::packet(session_of(session), memory, bytes);
-        let outcome = p.outcome;
-        let after = p.session;
-        let progress = after.progress;
-        return PackedRecord {
-            session: with_progress(session, progress),
-            answer: wide(key::number(outcome)),
-            taken: p.taken,
-            written: p.written,
-        };
+    let key = session.key;
+    if is_key(key) {
+        if goes_on(session) {
+            let p = packets::packet(session_of(session), memory, bytes);
+            let outcome = p.outcome;
+            let after = p.session;
+            let progress = after.progress;
+            return PackedRecord {
+                session: with_progress(session, progress),
+                answer: wide(key::number(outcome)),
+                taken: p.taken,
+                written: p.written,
+            };
+        }
     }
     PackedRecord {
         session,

@@ -1,6 +1,7 @@
 // Which records are a key or a session.
 ghost use mathlib.Core.Path.{_≡_};
 ghost use lib.ListN.{length};
+ghost use mathlib.Core.Bool.{true};
 ghost use Rattle.capi.specs.Records as records;
 use crate::KEY_SEAL;
 use crate::KeyRecord;
@@ -36,6 +37,7 @@ pub(crate) fn is_key(r: KeyRecord) -> bool
 {
     let whole = (r.seal == KEY_SEAL) & is_flag(r.configured) & (r.signature.spare == 0);
     whole
+        & (r.spare == 0)
         & proper(converting::key_numbers(r))
         & key::usable(
             r.configured == 1,
@@ -45,16 +47,28 @@ pub(crate) fn is_key(r: KeyRecord) -> bool
         )
 }
 
+// Whether a record whose key passes is a session. Apart from the test of the key, so that garoalva_packet makes both: a
+// function that hands on a part of a record copies the whole.
+pub(crate) fn goes_on(r: SessionRecord) -> bool
+    requires { ⌜ records.isKey (r .key) ≡ true ⌝ }
+    ensures { λ b. ⌜ (b ≡ records.isSession r) × (length (r .held) ≡ 8) ⌝ }
+{
+    let held = r.held;
+    packets::eight(held);
+    let whole = (r.seal == SESSION_SEAL) & is_flag(r.input_odd) & is_flag(r.output_odd);
+    whole
+        & (r.spare == 0)
+        & proper(converting::session_numbers(r))
+        & packets::under_way(converting::session_of(r))
+}
+
 pub(crate) fn is_session(r: SessionRecord) -> bool
     ensures { λ b. ⌜ (b ≡ records.isSession r) × (length (r .held) ≡ 8) ⌝ }
 {
     let held = r.held;
     packets::eight(held);
     if is_key(r.key) {
-        let whole = (r.seal == SESSION_SEAL) & is_flag(r.input_odd) & is_flag(r.output_odd);
-        return whole
-            & proper(converting::session_numbers(r))
-            & packets::under_way(converting::session_of(r));
+        return goes_on(r);
     }
     false
 }

@@ -139,7 +139,7 @@ pub extern "C" fn garoalva_check(key: KeyRecord) -> CheckedRecord
             kind: wide(c.kind),
             actual: wide(c.actual),
             expected: wide(c.expected),
-            offset: c.offset,
+            offset: wide(c.offset),
         };
     }
     CheckedRecord {

@@ -24,7 +24,7 @@ fn print(answer: Answer) {
             io::print_decimal(STDOUT_FILENO, f.kind as u64);
             print_spaced(f.actual as u64);
             print_spaced(f.expected as u64);
-            print_spaced(f.offset);
+            print_spaced(f.offset as u64);
         }
     }
     io::write_all(STDOUT_FILENO, b"\n");

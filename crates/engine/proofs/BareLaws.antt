@@ -84,7 +84,7 @@ module _ (r : Rule) (b : Bare r) where
     at-start = omega (arith, one-unit)
 
     -- room for the bytes, and for counting them
-    pub bare-room : (m : ℕ) → Room r p l c m (length (emitted r p bytes)) → (length bytes ≤ length (ahead l c)) × Countable r p × (length bytes ≤ 2 ^ 40)
+    pub bare-room : (m : ℕ) → Room r p l c m (length (emitted r p bytes)) → (length bytes ≤ length (ahead l c)) × Countable r p × (length bytes ≤ 2 ^ 26)
     bare-room m R =
         let e = ap length (bare-emitted p at-start bytes) in
         (omega (arith, R .fits), countable r p s (omega (arith, R .small)), omega (arith, R .fits, R .small))

@@ -114,7 +114,7 @@ module _ (r : Rule) (p : Progress) (xs : List ℕ) (some : 0 < length xs) (o : O
           }
 
 -- Room ahead of a cursor at layout byte x, where no more is written than lies before it.
-pub room-at : (r : Rule) (p : Progress) (l : Layout) (x : ℕ) (c : Cursor) (memory more : ℕ) → Placed l memory → Walked l x c → written r p ≤ x → x + more ≤ total l → total l ≤ 2 ^ 40
+pub room-at : (r : Rule) (p : Progress) (l : Layout) (x : ℕ) (c : Cursor) (memory more : ℕ) → Placed l memory → Walked l x c → written r p ≤ x → x + more ≤ total l → total l ≤ 2 ^ 26
     → Room r p l c memory more
 room-at r p l x c memory more placed w h k small =
     let left = walked-left l x c w in

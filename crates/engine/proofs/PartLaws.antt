@@ -3,7 +3,7 @@ use mathlib.Core.Path.{_≡_, refl, sym, ap, _∙_}
 use mathlib.Core.Bool.{Bool, true, false, cond}
 use mathlib.Core.List.{List, [], _∷_, _++_, append-assoc, append-nil}
 use Prim.Native.Nat.{ℕ, suc, _+_, _-_, _*_, _^_, _≤_, _<_}
-use native.Mathlib.Nat.{suc-mul, mul-le-mul, mul-le-mul-left}
+use native.Mathlib.Nat.{suc-mul, mul-add, mul-le-mul-left}
 use native.Mathlib.Numerals.{add-one}
 use native.Mathlib.Omega.{arith}
 use lib.Dec.{ltb}
@@ -204,14 +204,13 @@ sets-end all part from i h = rw (drop-of-length-le part h)
 
 -- ---- bounds
 
-pub offset-small : (i u : ℕ) → i ≤ 2 ^ 40 → u ≤ 4168 → i * u ≤ 2 ^ 60
-offset-small i u h k = omega (arith, mul-le-mul h k)
-
--- what is written bounds the units
-pub countable : (r : Rule) (p : Progress) → InStep r p → written r p ≤ 2 ^ 40 → Countable r p
+-- what is written bounds the units, and where they begin in the input: an input unit has at most 8 bytes more
+pub countable : (r : Rule) (p : Progress) → InStep r p → written r p ≤ 2 ^ 26 → Countable r p
 countable r p s h =
-    let c : p .output .index * 1 ≤ p .output .index * outUnit r = mul-le-mul-left (p .output .index) (omega (arith, s .matched .same, s .matched .some)) in
-    record { input = omega (arith, s .index); output = omega arith; unit = omega (arith, s .matched .most, field-small (r .input)) }
+    let i = p .output .index in
+    let a : i * 1 ≤ i * outUnit r = mul-le-mul-left i (omega (arith, s .matched .same, s .matched .some)) in
+    let b : i * inUnit r ≤ i * (outUnit r + 8) = mul-le-mul-left i (omega (arith, s .matched .same, field-small (r .input))) in
+    record { input = omega (arith, s .index); output = omega arith; begins = rw (sym (s .index)) (omega (arith, mul-add i (outUnit r) 8)) }
 
 -- ---- settling
 

@@ -77,7 +77,7 @@ pub record Room (r : Rule) (p : Progress) (l : Layout) (c : Cursor) (memory more
   pub placed : Placed l memory
   pub stands : InLayout l c
   pub fits : more ≤ length (ahead l c)
-  pub small : written r p + length (ahead l c) ≤ 2 ^ 40
+  pub small : written r p + length (ahead l c) ≤ 2 ^ 26
 
 -- What feeding asks: both sides in step, a unit begun, and room for what is placed.
 pub record Feedable (r : Rule) (p : Progress) (l : Layout) (c : Cursor) (memory : ℕ) (bytes : List ℕ) : Type 0 where
@@ -109,9 +109,9 @@ pub record Holds (r : Rule) (p : Progress) (more : ℕ) : Type 0 where
 
 -- The units so far can be counted.
 pub record Countable (r : Rule) (p : Progress) : Type 0 where
-  pub input : p .input .index ≤ 2 ^ 40
-  pub output : p .output .index ≤ 2 ^ 40
-  pub unit : inUnit r ≤ 4168
+  pub input : p .input .index ≤ 2 ^ 26
+  pub output : p .output .index ≤ 2 ^ 26
+  pub begins : p .input .index * inUnit r < 2 ^ 32
 
 -- So many bytes are all of the block under way, or all of the field.
 pub record OnePart (r : Rule) (p : Progress) (n : ℕ) : Type 0 where
@@ -125,7 +125,7 @@ pub record Going (r : Rule) (p : Progress) (l : Layout) (c : Cursor) (before byt
   pub progress : fed r (q .progress) rest ≡ fed r p bytes
   pub storing : Storing l c before (emitted r p bytes) (q .cursor) mid (emitted r (q .progress) rest)
   pub placed : Placed l (length mid)
-  pub small : written r (q .progress) + length (ahead l (q .cursor)) ≤ 2 ^ 40
+  pub small : written r (q .progress) + length (ahead l (q .cursor)) ≤ 2 ^ 26
 
 -- Neither side is signed.
 pub record Bare (r : Rule) : Type 0 where

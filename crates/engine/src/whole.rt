@@ -44,14 +44,15 @@ fn error_due(rule: Rule, p: Progress) -> Slot
             guard,
             field::decode(held),
         );
-        found(judgement, input.index * unit_size(rule.input, rule.output))
+        let begins = input.index * unit_size(rule.input, rule.output);
+        found(judgement, begins as u32)
     } else {
         Slot::Empty
     }
 }
 
 // A judgement of the block that begins at this offset, as the slot holds it.
-fn found(judgement: Judgement, offset: u64) -> Slot
+fn found(judgement: Judgement, offset: u32) -> Slot
     ensures { λ r. ⌜ r ≡ slotOf offset judgement ⌝ }
 {
     match judgement {

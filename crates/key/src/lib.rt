@@ -77,12 +77,13 @@ pub struct Configuration {
 }
 
 // A bad field: its part, what the input domain's rule gives, what was found, and where its block begins in the input
-// stream.
+// stream. No stream has 2^32 bytes; with a wider offset the slot has seven bytes behind its tag that mean nothing, and
+// copying those costs more than the rest.
 pub struct Error {
     pub part: Part,
     pub actual: u32,
     pub expected: u32,
-    pub offset: u64,
+    pub offset: u32,
 }
 
 pub enum Slot {
@@ -108,7 +109,7 @@ pub struct Checked {
     pub kind: u32,
     pub actual: u32,
     pub expected: u32,
-    pub offset: u64,
+    pub offset: u32,
     pub key: Key,
 }
 

@@ -18,9 +18,9 @@ use Rattle.layout.specs.Pieces.{Piece, end, piece, inUse, repeats, piece
 use Rattle.layout.specs.Moves.{Within, Placed, Distinct, Below}
 use Rattle.layout.specs.Answers.{someCountZero, miscounted, malformed, someBeyond, share, sharesWith, someShare, verdictOn, fits}
 use Rattle.layout.specs.Steps.{none, Shaped, Fits, Spans, nowhere}
-use Rattle.layout.proofs.PieceLaws.{size-repeats, length-from, getD-from}
+use Rattle.layout.proofs.PieceLaws.{size-repeats, in-use-from, length-from, getD-from}
 
-pub or-true : (a : Bool) → a || true ≡ true
+or-true : (a : Bool) → a || true ≡ true
 or-true true = refl
 or-true false = refl
 
@@ -33,10 +33,7 @@ or-false false b h = (refl, h)
 -- a turn that finds an empty entry, a turn that passes one, and the end
 pub empty-here : (u : ℕ) (es : List Entry) (i : ℕ) → i < u → u ≤ length es → getD es i none .count ≡ 0 → someCountZero (drop i (take u es)) ≡ true
 unfolding someCountZero
-empty-here zero es i h n e = absurd (omega arith)
-empty-here (suc u) [] i h n e = absurd (omega arith)
-empty-here (suc u) (x ∷ es) zero h n e = rw (eq-eqb (x .count) 0 e)
-empty-here (suc u) (x ∷ es) (suc i) h n e = empty-here u es i (omega arith) (omega arith) e
+empty-here u es i h n e = rw (in-use-from u es i h n, eq-eqb (getD es i none .count) 0 e)
 
 pub empty-next :
     (u : ℕ) (es : List Entry) (i : ℕ)
@@ -45,18 +42,7 @@ pub empty-next :
     → (getD es i none .count ≡ 0 → ⊥)
     → someCountZero (drop i (take u es)) ≡ someCountZero (drop (i + 1) (take u es))
 unfolding someCountZero
-empty-next u es i h n e = rw add-one (go u es i h n e)
-  where
-    go :
-        (u : ℕ) (es : List Entry) (i : ℕ)
-        → i < u
-        → u ≤ length es
-        → (getD es i none .count ≡ 0 → ⊥)
-        → someCountZero (drop i (take u es)) ≡ someCountZero (drop (suc i) (take u es))
-    go zero es i h n e = absurd (omega arith)
-    go (suc u) [] i h n e = absurd (omega arith)
-    go (suc u) (x ∷ es) zero h n e = rw (ne-eqb (x .count) 0 e)
-    go (suc u) (x ∷ es) (suc i) h n e = go u es i (omega arith) (omega arith) e
+empty-next u es i h n e = rw (in-use-from u es i h n, ne-eqb (getD es i none .count) 0 e)
 
 pub empty-all : (u : ℕ) (es : List Entry) (i : ℕ) → u ≤ i → someCountZero (drop i (take u es)) ≡ false
 unfolding someCountZero
@@ -180,6 +166,56 @@ beyond-within n [] h = tt
 beyond-within n (p ∷ ps) h =
     let f = or-false (ltb n (end p)) (someBeyond n ps) h in
     (ltb-false n (end p) (f .0), beyond-within n ps (f .1))
+
+-- ---- the measure of a repeat
+
+-- the bytes of a repeat, or 0 where 5 or 6 finds an entry: the entries passed have s, and these are left
+abbrev pub measured : ℕ → ℕ → ℕ → List Entry → ℕ
+measured n r s es = cond (someCountZero es || someBeyond n (map (piece r) es)) 0 (s + span es)
+
+-- what the next entry adds ends the walk where it is 0, and else goes into the sum
+module _
+    (n r s : ℕ) (all : List Entry) (e : Entry) (es : List Entry) (left : all ≡ e ∷ es) (m : ℕ) (adds : m ≡ cond (ltb n (end (piece r e))) 0 (e .count)) where
+  pub measured-none : m ≡ 0 → measured n r s all ≡ 0
+  unfolding someCountZero someBeyond
+  measured-none z = rw left (go (ltb n (end (piece r e))) (sym adds ∙ z))
+    where
+      go :
+          (b : Bool) → cond b 0 (e .count) ≡ 0
+          → cond ((eqb (e .count) 0 || someCountZero es) || (b || someBeyond n (map (piece r) es))) 0 (s + span (e ∷ es)) ≡ 0
+      go true z = rw (or-true (eqb (e .count) 0 || someCountZero es))
+      go false z = rw (eq-eqb (e .count) 0 z)
+
+  pub measured-next : (m ≡ 0 → ⊥) → measured n r s all ≡ measured n r (s + m) es
+  unfolding someCountZero someBeyond span
+  measured-next h = rw (left, adds) (go (ltb n (end (piece r e))) (rw adds at h))
+    where
+      go :
+          (b : Bool) → (cond b 0 (e .count) ≡ 0 → ⊥)
+          → cond ((eqb (e .count) 0 || someCountZero es) || (b || someBeyond n (map (piece r) es))) 0 (s + (e .count + span es))
+          ≡ measured n r (s + cond b 0 (e .count)) es
+      go true h = absurd (h refl)
+      go false h =
+          let f : s + (e .count + span es) ≡ s + e .count + span es = omega arith in
+          rw (ne-eqb (e .count) 0 h, f)
+
+-- of one entry
+pub measured-one :
+    (n r : ℕ) (all : List Entry) (e : Entry) → all ≡ e ∷ [] → (m : ℕ) → m ≡ cond (ltb n (end (piece r e))) 0 (e .count) → measured n r 0 all ≡ m
+unfolding someCountZero someBeyond span
+measured-one n r all e one zero adds = measured-none n r 0 all e [] one zero adds refl
+measured-one n r all e one (suc m) adds = measured-next n r 0 all e [] one (suc m) adds (λ z. omega arith) ∙ omega arith
+
+-- where all were passed
+pub measured-end : (n r s u : ℕ) (es : List Entry) (i : ℕ) → u ≤ i → measured n r s (drop i (take u es)) ≡ s
+unfolding someCountZero someBeyond span
+measured-end n r s u es i h = rw (drop-of-length-le (take u es) {i = i} (omega (arith, length-take u es))) (omega arith)
+
+-- of a layout, whose last repeat alone decides
+pub measured-all :
+    (n : ℕ) (l : Layout) → 0 < l .repeat
+    → measured n (l .repeat - 1) 0 (inUse l) ≡ cond (someCountZero (inUse l) || someBeyond n (pieces l)) 0 (span (inUse l))
+measured-all n l h = rw (beyond-pieces n l h, zero-add (span (inUse l)))
 
 -- ---- 7: the search for two pieces that share a byte
 

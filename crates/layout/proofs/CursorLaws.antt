@@ -17,7 +17,7 @@ use Rattle.layout.specs.Pieces.{Piece, end, piece, inUse, repeats, piece
 use Rattle.layout.specs.Moves.{gathered, scattered, Placed}
 use Rattle.layout.specs.Cursors.{nextPiece, ahead, forward, InLayout, Walked, Readied, Stored, Storing}
 use Rattle.layout.specs.Steps.{none, nowhere}
-use Rattle.layout.proofs.PieceLaws.{size-repeat, length-from, drop-from, take-from, length-places-of, length-places}
+use Rattle.layout.proofs.PieceLaws.{size-repeat, in-use-from, length-from, drop-from, take-from, length-places-of, length-places}
 use Rattle.layout.proofs.MoveLaws.{gathered-from, scattered-none, scattered-append, scattered-run, length-scattered}
 use Rattle.layout.proofs.AnswerLaws.{length-repeats, piece-at, within-at}
 
@@ -112,6 +112,10 @@ module _ (l : Layout) (used : length (inUse l) ≡ l .used) where
       pub ahead-at : ahead l at ≡ drop y (placesOf (drop (r * l .used + i) (pieces l)))
       ahead-at = rw e (sym (rw here (drop-row y _ _ _ h)))
 
+      -- where that is byte x of the layout
+      pub walked-at : (c : Cursor) (x : ℕ) → c ≡ at → drop y (placesOf (drop (r * l .used + i) (pieces l))) ≡ drop x (places l) → Walked l x c
+      walked-at c x q on = rw q (record { stands = stands-at; on = ahead-at ∙ on })
+
     -- its bytes are passed
     pub pass : (y : ℕ) → getD (l .entries) i none .count ≤ y
         → drop y (placesOf (drop (r * l .used + i) (pieces l))) ≡ drop (y - getD (l .entries) i none .count) (placesOf (drop (r * l .used + (i + 1)) (pieces l)))
@@ -120,13 +124,7 @@ module _ (l : Layout) (used : length (inUse l) ≡ l .used) where
 -- what is left of a repeat from entry i on
 pub span-left : (u : ℕ) (es : List Entry) (i : ℕ) → i < u → u ≤ length es → span (drop i (take u es)) ≡ getD es i none .count + span (drop (i + 1) (take u es))
 unfolding span
-span-left u es i h k = rw add-one (go u es i h k)
-  where
-    go : (u : ℕ) (es : List Entry) (i : ℕ) → i < u → u ≤ length es → span (drop i (take u es)) ≡ getD es i none .count + span (drop (suc i) (take u es))
-    go zero es i h k = absurd (omega arith)
-    go (suc u) [] i h k = absurd (omega arith)
-    go (suc u) (e ∷ es) zero h k = refl
-    go (suc u) (e ∷ es) (suc i) h k = go u es i (omega arith) (omega arith)
+span-left u es i h k = ap (λ (z : List Entry). span z) (in-use-from u es i h k)
 
 pub span-passed : (u : ℕ) (es : List Entry) (i : ℕ) → u ≤ i → span (drop i (take u es)) ≡ 0
 unfolding span

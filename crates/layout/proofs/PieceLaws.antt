@@ -6,6 +6,7 @@ use native.Mathlib.Nat.{add-zero, sub-zero, mul-assoc, mul-comm, mul-zero, zero-
 use native.Mathlib.Numerals.{add-one}
 use native.Mathlib.Omega.{arith}
 use lib.ListN.{length, take, drop, getD, length-append}
+use lib.Seq.{length-take-le, drop-cons, getD-take}
 use Rattle.layout.specs.declared.Entry.{Entry}
 use Rattle.layout.specs.declared.Layout.{Layout}
 use Rattle.layout.specs.Pieces.{Piece, piece, inUse, repeats, pieces, size, span, total, from, placesOf, places}
@@ -41,6 +42,19 @@ span-more es i = rw add-one (go es i)
     go [] (suc i) = refl
     go (e ∷ es) zero = omega arith
     go (e ∷ es) (suc i) = omega (arith, go es i)
+
+-- the entries in use from number i on
+pub in-use-from : (u : ℕ) (es : List Entry) (i : ℕ) → i < u → u ≤ length es → drop i (take u es) ≡ getD es i none ∷ drop (i + 1) (take u es)
+in-use-from u es i h k =
+    rw add-one (drop-cons (take u es) i none (omega (arith, length-take-le u es k)) ∙ ap (λ (e : Entry). e ∷ drop (suc i) (take u es)) (getD-take u es i none h))
+
+-- the entries in use where there is one
+pub one-in-use : (l : Layout) → length (l .entries) ≡ 16 → l .used ≡ 1 → inUse l ≡ getD (l .entries) 0 none ∷ []
+one-in-use l n one = rw one (go (l .entries) (omega arith))
+  where
+    go : (es : List Entry) → 0 < length es → take 1 es ≡ getD es 0 none ∷ []
+    go [] h = absurd (omega arith)
+    go (e ∷ es) h = refl
 
 -- the product that total computes fits
 pub span-fits : (u r s : ℕ) → u * r ≤ 1024 → s ≤ u * 4294967295 → r * s < 18446744073709551616

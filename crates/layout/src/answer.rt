@@ -138,9 +138,33 @@ fn overlapping(l: Layout) -> bool
     met
 }
 
-// The bytes of a repeat, or 0 where an entry is empty or a piece ends beyond the memory. One walk for both tests and the
-// sum: each walk copies the layout.
+// What an entry adds to a repeat, or 0 where it is empty or its last repeat ends beyond the memory.
+fn measure(e: Entry, last: u64, memory_length: u64) -> u64
+    requires { ⌜ last < 1024 ⌝ }
+    ensures { λ r. ⌜ (r ≡ cond (ltb «memory_length» (end (piece last e))) 0 (e .count)) × (r ≤ 4294967295) ⌝ }
+{
+    if beyond(e, last, memory_length) {
+        return 0;
+    }
+    e.count as u64
+}
+
+// The bytes of a repeat, or 0 where an entry is empty or a piece ends beyond the memory. A layout with one entry is
+// measured without a copy.
 fn measured(l: Layout, memory_length: u64) -> u64
+    requires { ⌜ (0 < l .used) × (l .used ≤ 16) × (0 < l .repeat) × (l .used * l .repeat ≤ 1024) ⌝ }
+    ensures { λ r. ⌜ (r ≡ cond (answers.someCountZero (inUse l) || answers.someBeyond «memory_length» (pieces l)) 0 (span (inUse l))) × (r ≤ l .used * 4294967295) ⌝ }
+{
+    if l.used == 1 {
+        let e = l.entries[0];
+        let last = (l.repeat - 1) as u64;
+        return measure(e, last, memory_length);
+    }
+    measured_each(l, memory_length)
+}
+
+// The same entry by entry. One walk for both tests and the sum: each walk copies the layout.
+fn measured_each(l: Layout, memory_length: u64) -> u64
     requires { ⌜ (0 < l .used) × (l .used ≤ 16) × (0 < l .repeat) × (l .used * l .repeat ≤ 1024) ⌝ }
     ensures { λ r. ⌜ (r ≡ cond (answers.someCountZero (inUse l) || answers.someBeyond «memory_length» (pieces l)) 0 (span (inUse l))) × (r ≤ l .used * 4294967295) ⌝ }
 {
@@ -150,13 +174,11 @@ fn measured(l: Layout, memory_length: u64) -> u64
     let mut i: usize = 0;
     while i < used {
         let e = l.entries[i];
-        if e.count == 0 {
+        let n = measure(e, last, memory_length);
+        if n == 0 {
             return 0;
         }
-        if beyond(e, last, memory_length) {
-            return 0;
-        }
-        sum += e.count as u64;
+        sum += n;
         i += 1;
     }
     sum

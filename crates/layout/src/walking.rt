@@ -2,10 +2,11 @@
 ghost use mathlib.Core.Path.{_≡_};
 ghost use Prim.Native.Nat.{_+_, _-_, _*_, _≤_, _<_, _^_};
 ghost use lib.ListN.{length, take, drop};
-ghost use Rattle.layout.specs.Pieces.{span, pieces, inUse, total};
+ghost use Rattle.layout.specs.Pieces.{end, inUse, piece, pieces, span, total};
 ghost use Rattle.layout.specs.Moves.{Placed};
 ghost use Rattle.layout.specs.Cursors as cursors;
 ghost use Rattle.layout.specs.Cursors.{InLayout, Walked, Begins, Readied, ahead, nextPiece};
+use crate::Entry;
 use crate::Layout;
 use crate::LayoutOffset;
 use crate::MemoryOffset;
@@ -21,8 +22,35 @@ pub struct Cursor {
     pub(crate) repeat: u64,
 }
 
-// Where byte x of repeat r lies, or the end of the repeat.
+// Byte y of entry number i in repeat r.
+fn within(e: Entry, i: usize, r: u64, y: u64) -> Cursor
+    requires { ⌜ (end (piece r e) < 2 ^ 64) × (y < e .count) × (i < 16) ⌝ }
+    ensures { λ c. ⌜ c ≡ record { place = record { 0 = piece r e .start + y }; left = e .count - y; entry = i + 1; repeat = r } ⌝ }
+{
+    Cursor {
+        place: MemoryOffset(begin(e, r) + y),
+        left: e.count as u64 - y,
+        entry: i + 1,
+        repeat: r,
+    }
+}
+
+// Where byte x of repeat r lies, or the end of the repeat. In the first entry it is found without a copy of the layout.
 fn find(l: Layout, r: u64, x: u64) -> Cursor
+    requires { ⌜ (Placed l (2 ^ 64 - 1)) × (r < l .repeat) × (x ≤ span (inUse l)) ⌝ }
+    ensures { λ c. ⌜ Walked l (r * span (inUse l) + x) c ⌝ }
+{
+    if 0 < l.used {
+        let e = l.entries[0];
+        if x < e.count as u64 {
+            return within(e, 0, r, x);
+        }
+    }
+    search(l, r, x)
+}
+
+// The same entry by entry.
+fn search(l: Layout, r: u64, x: u64) -> Cursor
     requires { ⌜ (Placed l (2 ^ 64 - 1)) × (r < l .repeat) × (x ≤ span (inUse l)) ⌝ }
     ensures { λ c. ⌜ Walked l (r * span (inUse l) + x) c ⌝ }
 {
@@ -33,12 +61,7 @@ fn find(l: Layout, r: u64, x: u64) -> Cursor
         let e = l.entries[i];
         let count = e.count as u64;
         if y < count {
-            return Cursor {
-                place: MemoryOffset(begin(e, r) + y),
-                left: count - y,
-                entry: i + 1,
-                repeat: r,
-            };
+            return within(e, i, r, y);
         }
         y -= count;
         i += 1;

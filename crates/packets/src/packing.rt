@@ -61,9 +61,10 @@ pub fn packet(session: Session, memory: &mut [u8], bytes: &[u8]) -> Packed
     let key = session.key;
     let start = session.start;
     let before = session.progress;
+    let layout = key.layout;
     let rule = transfer::receive_rule(key.signature);
-    let at = layout::walk(key.layout, start.ahead(engine::written(rule, before)));
-    let fed = engine::feed(rule, before, key.layout, memory, at, bytes);
+    let at = layout::walk(layout, start.ahead(engine::written(rule, before)));
+    let fed = engine::feed(rule, before, layout, memory, at, bytes);
     let progress = fed.progress;
     let next = Session {
         key,

@@ -25,20 +25,8 @@ fn none() -> Held {
 
 // The key's record without its seal.
 fn unsealed(h: Held) -> Held {
-    let k = h.key;
-    let layout = k.layout;
-    let signature = k.signature;
-    let key = KeyRecord {
-        seal: 0,
-        memory_length: k.memory_length,
-        layout,
-        signature,
-        configured: k.configured,
-        error_type: k.error_type,
-        error_actual: k.error_actual,
-        error_expected: k.error_expected,
-        error_offset: k.error_offset,
-    };
+    let mut key = h.key;
+    key.seal = 0;
     let session = h.session;
     Held { key, session }
 }

@@ -155,7 +155,7 @@ module _ (k : Key) (memory wire : List ℕ) (x count : ℕ) (c : Usable k) (e : 
       whole (sendRule (k .signature)) count _ _ (ready (sendRule (k .signature)) count (send-accepted .agree))
       (memoryStream k memory x count) (bytes-gathered memory _ b) stream-length
 
-  pub send-small : streamLength (k .signature .wire) count < 2 ^ 32
+  pub send-small : streamLength (k .signature .wire) count ≤ 2 ^ 26
   send-small =
       let a = send-accepted .admitted in
       omega (arith, stream-double (k .signature .wire) count (send-accepted .measured .1 .sized), data-in-stream (k .signature .memory) count, a .inside, a .bounded .small)

@@ -33,7 +33,7 @@ pub record Drawable (r : Rule) (l : Layout) (memory : List ℕ) (x n : ℕ) (to 
   pub target : Placed to wire
   pub near : Placed to (2 ^ 64 - 1)
   pub room : length (emitted r (begun r Empty) (bytesAt memory (drop x (places l)) n)) ≤ total to
-  pub small : total to ≤ 2 ^ 40
+  pub small : total to ≤ 2 ^ 26
 
 -- On the way from one cursor to another: d bytes are drawn, and the rest lies ahead.
 pub record Drawing (r : Rule) (l : Layout) (memory : List ℕ) (start : Cursor) (n : ℕ) (to : Layout) (first : Cursor) (before : List ℕ) (q : Fed) (c : Cursor) (d : ℕ) (mid : List ℕ) : Type 0 where

@@ -14,5 +14,5 @@ pub struct Numbers {
     pub kind: u32,
     pub actual: u32,
     pub expected: u32,
-    pub offset: u64,
+    pub offset: u32,
 }

@@ -11,7 +11,7 @@ numbers-of-requires c κs = search needs
 returns : tie.Need-returns
 returns c =
     let h = c .before .pre in
-    rw (c .numbers-of .ensures, ap (λ (x : KeyRecord). x .seal) h, ap (λ (x : KeyRecord). x .signature) h, ap (λ (x : KeyRecord). x .configured) h)
+    rw (c .numbers-of .ensures, ap (λ (x : KeyRecord). x .seal) h, ap (λ (x : KeyRecord). x .signature) h, ap (λ (x : KeyRecord). x .configured) h, ap (λ (x : KeyRecord). x .spare) h)
 
 pub with-slot-spec : {M : Type 1} → statement M
 with-slot-spec = tie.close (tie.spec numbers-of-requires returns)

@@ -21,7 +21,7 @@ usable-requires c κs = search needs
 
 returns : tie.Need-returns
 unfolding isKey usable
-returns c = rw (c .usable .ensures, c .before .signature-of .ensures, c .before .before .before .proper .ensures, c .before .before .before .before .key-numbers .ensures, c .before .before .before .before .before .before .is-flag .ensures)
+returns c = rw (c .usable .ensures, c .before .signature-of .ensures, c .before .before .before .proper .ensures, c .before .before .before .before .key-numbers .ensures, c .before .before .before .before .before .before .before .is-flag .ensures)
 
 pub is-key-spec : {M : Type 1} → statement M
 is-key-spec =

@@ -25,11 +25,15 @@ wide-requires-2 c κs = search needs
 wide-requires-3 : tie.Need-wide-requires-3
 wide-requires-3 c κs = search needs
 
+wide-requires-4 : tie.Need-wide-requires-4
+wide-requires-4 c κs = search needs
+
 returns : tie.Need-returns
 unfolding checkAtBorder
 returns c =
-    let i = c .before .before .before .before .before .before .before in
-    rw (c .wide3 .ensures, c .before .wide2 .ensures, c .before .before .wide .ensures, c .before .before .before .key-record .ensures, c .before .before .before .before .check .ensures, c .before .before .before .before .before .key-of .ensures, sym (i .is-key .ensures) ∙ c .before .before .before .before .before .before .if1 .taken)
+    let w = c .before in
+    let i = w .before .before .before .before .before .before .before in
+    rw (c .wide4 .ensures, w .wide3 .ensures, w .before .wide2 .ensures, w .before .before .wide .ensures, w .before .before .before .key-record .ensures, w .before .before .before .before .check .ensures, w .before .before .before .before .before .key-of .ensures, sym (i .is-key .ensures) ∙ w .before .before .before .before .before .before .if1 .taken)
 
 returns-2 : tie.Need-returns-2
 unfolding checkAtBorder
@@ -46,5 +50,6 @@ garoalva-check-spec =
     wide-requires
     wide-requires-2
     wide-requires-3
+    wide-requires-4
     returns
     returns-2)

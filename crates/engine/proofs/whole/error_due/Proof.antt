@@ -1,11 +1,18 @@
-use Rattle.engine.proofs.PartLaws.{offset-small}
-use mathlib.Core.Path.{sym, _∙_}
-use native.Mathlib.Omega.{arith}
-use Rattle.engine.specs.Feeding.{errorDue}
-use Rattle.engine.specs.Transfers.{errorBy}
 use borrow.Author.Needs.{needs}
 use Rattle.engine.proofs.whole.error_due.Statement.{statement}
 use Rattle.engine.proofs.whole.error_due.Tie as tie
+use mathlib.Core.Path.{sym, _∙_}
+use Prim.Native.Nat.{_*_, _<_, _^_}
+use native.Mathlib.Omega.{arith}
+use Rattle.engine.specs.Feeding.{errorDue}
+use Rattle.engine.specs.Transfers.{errorBy}
+
+-- where the block begins fits in 32 bits
+low :
+    (u : tie.After-unit-size)
+    → let b = u .before .before .before .before .before .before .before .before in
+    b .args .p .input .index * u .unit-size .result < 2 ^ 32
+low u = rw (u .unit-size .ensures .0) (u .before .before .before .before .before .before .before .before .pre .begins)
 
 signed-requires : tie.Need-signed-requires
 signed-requires c κs = search needs
@@ -22,10 +29,11 @@ judge-requires c κs = search needs
 unit-size-requires : tie.Need-unit-size-requires
 unit-size-requires c κs = search needs
 
-mul-found : tie.Need-mul-found
-mul-found c =
-    let b = c .before .before .before .before .before .before .before .before .before in
-    rw (c .before .unit-size .ensures .0) (omega (arith, offset-small (b .args .p .input .index) _ (b .pre .input) (b .pre .unit)))
+mul-begins : tie.Need-mul-begins
+mul-begins c = omega (arith, low (c .before))
+
+cast-found : tie.Need-cast-found
+cast-found c = omega (arith, low (c .before))
 
 found-requires : tie.Need-found-requires
 found-requires c κs = search needs
@@ -51,7 +59,8 @@ error-due-spec =
     decode-requires
     judge-requires
     unit-size-requires
-    mul-found
+    mul-begins
+    cast-found
     found-requires
     returns
     returns-2)

@@ -1,68 +1,29 @@
--- The invariant: the sum is the span of the entries passed.
-use mathlib.Core.Path.{_≡_, refl, ap, _∙_}
-use Prim.Native.Nat.{ℕ, _*_, _-_, _≤_}
+-- One entry is all that is in use.
 use native.Mathlib.Omega.{arith}
 use borrow.Author.Needs.{needs}
-use lib.ListN.{take}
+use lib.ListN.{length-map}
 use Rattle.layout.specs.Pieces.{span}
-use Rattle.layout.proofs.PieceLaws.{span-more}
+use Rattle.layout.proofs.PieceLaws.{one-in-use}
 use Rattle.layout.proofs.places.span.Statement.{statement}
 use Rattle.layout.proofs.places.span.Tie as tie
 
-abbrev Inv-loop : tie.InvT-loop
-Inv-loop l used sum₀ i₀ sum i = (i ≤ used) × (sum ≡ span (take i (l .entries))) × (sum ≤ i * 4294967295)
-
-abbrev μ-loop : tie.MeasureT-loop
-μ-loop l used sum₀ i₀ sum i = used - i
-
-cast-used : tie.Need-cast-used Inv-loop μ-loop
-cast-used c = search needs
-
-loop-holds : tie.Need-loop-holds Inv-loop μ-loop
-unfolding span
-loop-holds c = (search needs, refl, search needs)
-
-mul-e : tie.Need-mul-e Inv-loop μ-loop
-mul-e c = search needs
-
-element-copy-out-e : tie.Need-element-copy-out-e Inv-loop μ-loop
+element-copy-out-e : tie.Need-element-copy-out-e
 element-copy-out-e c = search needs
 
-cast-sum : tie.Need-cast-sum Inv-loop μ-loop
-cast-sum c = search needs
+cast-result : tie.Need-cast-result
+cast-result c = search needs
 
-add-sum : tie.Need-add-sum Inv-loop μ-loop
-add-sum c = search needs
-
-add-i : tie.Need-add-i Inv-loop μ-loop
-add-i c = search needs
-
-loop-less : tie.Need-loop-less Inv-loop μ-loop
-loop-less c = search needs
-
-loop-again : tie.Need-loop-again Inv-loop μ-loop
-loop-again c =
-    let s = c .before .before .before in
-    (search needs, omega (arith, span-more (s .before .args .t1 .entries) (s .loop .i)), search needs)
-
-returns : tie.Need-returns Inv-loop μ-loop
+returns : tie.Need-returns
+unfolding span
 returns c =
-    let e : c .before .loop .i ≡ c .before .before .args .t1 .used = omega arith in
-    (c .before .loop .inv .1 ∙ ap (λ (i : ℕ). span (take i (c .before .before .args .t1 .entries))) e, search needs)
+    let s = c .before .before .before in
+    rw (one-in-use (s .args .t1) (simp length-map at (s .good .0 .1 .1 .0 .1 .0 .1)) (c .before .before .if1 .taken)) (omega arith, omega arith)
+
+summed-requires : tie.Need-summed-requires
+summed-requires c κs = search needs
+
+returns-2 : tie.Need-returns-2
+returns-2 c = search needs
 
 pub span-spec : {M : Type 1} → statement M
-span-spec =
-    tie.close
-    (tie.spec
-    Inv-loop
-    μ-loop
-    cast-used
-    loop-holds
-    mul-e
-    element-copy-out-e
-    cast-sum
-    add-sum
-    add-i
-    loop-less
-    loop-again
-    returns)
+span-spec = tie.close (tie.spec element-copy-out-e cast-result returns summed-requires returns-2)

@@ -12,16 +12,16 @@ use Rattle.packets.proofs.packing.packet.Tie as tie
 -- what an accepted packet tells
 told :
     (r : tie.After-receive-rule)
-    → let a = r .before .before .before .before .before .before .before .before .before .before .args in
+    → let a = r .before .before .before .before .before .before .before .before .before .before .before .args in
     (length (a .memory .now) ≡ a .session .key .«memory_length») × (takenBy (a .session) + length (a .bytes .now) ≤ wireLength (a .session))
 told r =
-    let t = r .before .before .before .before in
+    let t = r .before .before .before .before .before in
     packet-told _ _ _ (sym (t .before .before .answer .ensures) ∙ t .enum-told .given .1)
 
 -- the cursor stands at the next output byte's place
 stands :
     (w : tie.After-walk)
-    → let a = w .before .before .before .before .before .before .before .before .before .before .before .before .before .args in
+    → let a = w .before .before .before .before .before .before .before .before .before .before .before .before .before .before .args in
     Walked (a .session .key .layout) (a .session .start .0 + parts.written (ruleOf (a .session)) (a .session .progress)) (w .walk .result)
 stands w = rw (w .before .ahead .ensures, w .before .before .written .ensures, w .before .before .before .receive-rule .ensures) at (w .walk .ensures)
 
@@ -45,19 +45,19 @@ receive-rule-requires c κs = search needs
 
 written-requires : tie.Need-written-requires
 written-requires c κs =
-    let s = c .before .before .before .before .before .before .before .before .before .before in
+    let s = c .before .before .before .before .before .before .before .before .before .before .before in
     rw (c .receive-rule .ensures) (packet-at _ (s .pre) (s .args .bytes .now) (told c .1) .0)
 
 ahead-requires : tie.Need-ahead-requires
 ahead-requires c κs =
     let r = c .before in
-    let s = r .before .before .before .before .before .before .before .before .before .before in
+    let s = r .before .before .before .before .before .before .before .before .before .before .before in
     rw (c .written .ensures, r .receive-rule .ensures) (packet-at _ (s .pre) (s .args .bytes .now) (told r .1) .1)
 
 walk-requires : tie.Need-walk-requires
 walk-requires c κs =
     let r = c .before .before in
-    let s = r .before .before .before .before .before .before .before .before .before .before in
+    let s = r .before .before .before .before .before .before .before .before .before .before .before in
     let at = packet-at _ (s .pre) (s .args .bytes .now) (told r .1) in
     (at .2, rw (c .ahead .ensures, c .before .written .ensures, r .receive-rule .ensures) (at .3))
 
@@ -65,19 +65,19 @@ feed-requires : tie.Need-feed-requires
 feed-requires c κs =
     let w = c .before in
     let r = w .before .before .before in
-    let s = r .before .before .before .before .before .before .before .before .before .before in
+    let s = r .before .before .before .before .before .before .before .before .before .before .before in
     rw (r .receive-rule .ensures) (packet-feeds _ (s .pre) (s .args .bytes .now) (told r .1) _ (told r .0) _ (stands w))
 
 taken-requires : tie.Need-taken-requires
 taken-requires c κs =
     let r = c .before .before .before .before .before .before .before .before in
-    let s = r .before .before .before .before .before .before .before .before .before .before in
+    let s = r .before .before .before .before .before .before .before .before .before .before .before in
     rw (c .before .before .before .feed .ensures .progress, r .receive-rule .ensures) (packet-taken _ (s .pre) (s .args .bytes .now) (told r .1))
 
 written-requires-2 : tie.Need-written-requires-2
 written-requires-2 c κs =
     let r = c .before .before .before .before .before .before .before .before .before in
-    let s = r .before .before .before .before .before .before .before .before .before .before in
+    let s = r .before .before .before .before .before .before .before .before .before .before .before in
     rw (c .before .before .before .before .feed .ensures .progress, r .receive-rule .ensures) (packet-written _ (s .pre) (s .args .bytes .now) (told r .1))
 
 same-length-2 : tie.Need-same-length-2
@@ -87,7 +87,7 @@ returns-2 : tie.Need-returns-2
 returns-2 c =
     let f = c .before .before .before .before .before in
     let r = f .before .before .before .before .before in
-    let t = r .before .before .before .before in
+    let t = r .before .before .before .before .before in
     rw (c .written2 .ensures, c .before .taken .ensures, r .receive-rule .ensures)
     (packet-done _ _ _ (sym (t .before .before .answer .ensures) ∙ t .enum-told .given .1) _ (stands (f .before .before)) _ _ (rw (r .receive-rule .ensures) at (f .feed .ensures)))
 

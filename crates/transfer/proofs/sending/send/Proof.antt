@@ -1,4 +1,5 @@
 use mathlib.Core.Path.{_≡_, sym, _∙_}
+use native.Mathlib.Omega.{arith}
 use lib.ListN.{length}
 use Rattle.guard.specs.Guards.{Bytes}
 use Rattle.key.specs.declared.Outcome.the-variants.{Done}
@@ -55,7 +56,7 @@ first-bytes-requires : tie.Need-first-bytes-requires
 first-bytes-requires c κs =
     let r = c .before .before in
     let s = r .before .before .before .before .before .before .before .before .before in
-    rw (c .stream-length2 .ensures) (send-small _ (s .args .memory .now) (s .args .wire .now) _ _ (s .pre) (done r) (bytes r))
+    rw (c .stream-length2 .ensures) (omega (arith, send-small _ (s .args .memory .now) (s .args .wire .now) _ _ (s .pre) (done r) (bytes r)))
 
 draw-requires : tie.Need-draw-requires
 draw-requires c κs =
