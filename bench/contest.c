@@ -7,7 +7,7 @@
 
 typedef void (*run)(struct scene *s, enum direction direction);
 
-static const run runs[CONTENDERS] = {run_ours, run_packets, run_empty,     run_handed,
+static const run runs[CONTENDERS] = {run_ours, run_packets, run_empty,     run_handed, run_by_hand,
                                      run_loop, run_isal,    run_isal_copy, run_memcpy};
 
 enum { PAGE = 4096 };
@@ -27,7 +27,7 @@ static bool takes_part(enum contender c, const struct scene *s, enum direction d
     enum signing signing = s->shape.signing;
     if (c == PACKETS)
         return direction == RECEIVE;
-    if (c == EMPTY || c == HANDED)
+    if (c == EMPTY || c == HANDED || c == BY_HAND)
         return direction == RECEIVE && signing == PLAIN;
     if (c == LOOP)
         return signing != PLAIN;

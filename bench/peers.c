@@ -1,5 +1,5 @@
 #include "peers.h"
-#include "handed.h"
+#include "by_value.h"
 #include "ours.h"
 #include <string.h>
 #ifdef HAVE_ISAL
@@ -158,4 +158,16 @@ void run_handed(struct scene *s, enum direction direction) {
         if (packed.answer != GAROALVA_DONE)
             fail("nothing was refused", s);
     }
+}
+
+void run_by_hand(struct scene *s, enum direction direction) {
+    (void)direction;
+    garoalva_packed packed = {.session = opened_session(s, 0)};
+    for (size_t from = 0; from < s->wire_length; from += PACKET) {
+        size_t length = s->wire_length - from < PACKET ? s->wire_length - from : PACKET;
+        packed = packet_by_hand(packed.session, s->memory, s->memory_length, s->wire + from, length);
+        if (packed.answer != GAROALVA_DONE)
+            fail("a packet by hand was refused", s);
+    }
+    finish_session(s, packed.session);
 }

@@ -26,6 +26,8 @@ void run_isal_copy(struct scene *s, enum direction direction);
 /* Calls that only hand a session over and back by value, as many as there are packets: what C's calling convention
  * costs whatever the callee does. */
 void run_handed(struct scene *s, enum direction direction);
+/* Packets by hand, for unsigned scenes. */
+void run_by_hand(struct scene *s, enum direction direction);
 /* The memory stream's bytes, piece by piece: no guards, no fields. What is signed stays as it is, and the bytes go to
  * the spare buffer. */
 void run_memcpy(struct scene *s, enum direction direction);

@@ -6,6 +6,7 @@ use Prim.Native.Nat.{ℕ, _+_, _-_, _*_, _≤_, _<_, _^_, min}
 use lib.Dec.{eqb, ltb}
 use lib.ListN.{length}
 use lib.Seq.{sets}
+use Rattle.guard.specs.declared.Running.{Running}
 use Rattle.guard.specs.Guards.{advanced}
 use Rattle.field.specs.declared.Domain.{Domain}
 use Rattle.field.specs.Domains.{signed}
@@ -21,9 +22,13 @@ use Rattle.engine.specs.Streams.{inBlock, inUnit, outUnit}
 use Rattle.engine.specs.Feeding.{checksGuard, makesGuard, fed, emitted, settled, placed}
 use Rattle.engine.specs.Standing.{Matched}
 
--- a side after some data bytes
+-- a guard after some data bytes
+abbrev pub guardTaken : Domain → Bool → Running → List ℕ → Running
+guardTaken d works g xs = cond works (advanced (d .«guard_type») g xs) g
+
+-- a side after them
 abbrev pub sideTaken : Domain → Bool → Side → List ℕ → Side
-sideTaken d works s xs = record { index = s .index; at = s .at + length xs; guard = cond works (advanced (d .«guard_type») (s .guard) xs) (s .guard) }
+sideTaken d works s xs = record { index = s .index; at = s .at + length xs; guard = guardTaken d works (s .guard) xs }
 
 -- the progress after some data bytes of one block
 abbrev pub dataTaken : Rule → Progress → List ℕ → Progress

@@ -6,7 +6,6 @@ ghost use lib.Seq.{sets};
 ghost use Rattle.engine.specs.Parts.{dataTaken, fieldTaken, Holds};
 use crate::Progress;
 use crate::Rule;
-use crate::Side;
 use crate::sides;
 
 // The progress with some of the block's data more.
@@ -16,8 +15,11 @@ pub(crate) fn take_data(rule: Rule, p: Progress, part: &[u8]) -> Progress
 {
     let slot = p.slot;
     let held = p.held;
-    let input = sides::take(rule.input, sides::checks_guard(rule), p.input, part);
-    let output = sides::take(rule.output, sides::makes_guard(rule), p.output, part);
+    let n = part.len() as u64;
+    let checked = sides::advance(rule.input, sides::checks_guard(rule), p.input.guard, part);
+    let made = sides::advance(rule.output, sides::makes_guard(rule), p.output.guard, part);
+    let input = sides::further(p.input, n, checked);
+    let output = sides::further(p.output, n, made);
     Progress {
         input,
         output,
@@ -38,11 +40,7 @@ pub(crate) fn take_field(rule: Rule, p: Progress, part: &[u8]) -> Progress
     let came = p.held;
     let from = before.at - sides::block_size(rule.input, rule.output);
     let held = hold(came, from as usize, part);
-    let input = Side {
-        index: before.index,
-        at: before.at + part.len() as u64,
-        guard,
-    };
+    let input = sides::further(before, part.len() as u64, guard);
     Progress {
         input,
         output,

@@ -4,12 +4,12 @@ ghost use Prim.Native.Nat.{_+_, _≤_, _<_, _^_};
 ghost use lib.ListN.{length};
 ghost use Rattle.engine.specs.Streams as streams;
 ghost use Rattle.engine.specs.Feeding as feeding;
-ghost use Rattle.engine.specs.Parts.{sideTaken};
 ghost use Rattle.engine.specs.Parts as parts;
 use crate::Progress;
 use crate::Rule;
 use crate::Side;
 use field::Domain;
+use guard::Running;
 
 // A domain's block size: a domain without a signature takes the other's, or 1.
 pub(crate) fn block_size(d: Domain, other: Domain) -> u64
@@ -70,25 +70,28 @@ pub(crate) fn at_block(d: Domain, index: u64) -> Side
     }
 }
 
-// The side with a part of its block's data more.
-pub(crate) fn take(d: Domain, works: bool, s: Side, part: &[u8]) -> Side
-    requires { ⌜ (length (now part) ≤ 2 ^ 32) × (s .at ≤ 2 ^ 32) ⌝ }
-    ensures { λ r. ⌜ r ≡ sideTaken d works s (now (part .entry)) ⌝ }
+// A guard with a part of its block's data more, where it is worked out at all. It takes no side: the whole progress would
+// be written to memory for it.
+pub(crate) fn advance(d: Domain, works: bool, guard: Running, part: &[u8]) -> Running
+    requires { ⌜ length (now part) ≤ 2 ^ 32 ⌝ }
+    ensures { λ r. ⌜ r ≡ parts.guardTaken d works guard (now (part .entry)) ⌝ }
 {
-    let before = s.guard;
-    let at = s.at + part.len() as u64;
     if works {
-        Side {
-            index: s.index,
-            at,
-            guard: guard::advance(d.guard_type, before, part),
-        }
+        guard::advance(d.guard_type, guard, part)
     } else {
-        Side {
-            index: s.index,
-            at,
-            guard: before,
-        }
+        guard
+    }
+}
+
+// The side so many bytes further into its block, with this guard.
+pub(crate) fn further(s: Side, n: u64, guard: Running) -> Side
+    requires { ⌜ (n ≤ 2 ^ 32) × (s .at ≤ 2 ^ 32) ⌝ }
+    ensures { λ r. ⌜ r ≡ record { index = s .index; at = s .at + n; guard = guard } ⌝ }
+{
+    Side {
+        index: s.index,
+        at: s.at + n,
+        guard,
     }
 }
 

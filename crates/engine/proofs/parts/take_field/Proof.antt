@@ -11,11 +11,11 @@ sub-from c = search needs
 hold-requires : tie.Need-hold-requires
 hold-requires c κs = search needs
 
-add-t14 : tie.Need-add-t14
-add-t14 c = search needs
+further-requires : tie.Need-further-requires
+further-requires c κs = search needs
 
 returns : tie.Need-returns
-returns c = rw (c .before .hold .ensures, c .before .before .before .block-size .ensures .0)
+returns c = rw (c .further .ensures, c .before .hold .ensures, c .before .before .before .block-size .ensures .0)
 
 pub take-field-spec : {M : Type 1} → statement M
-take-field-spec = tie.close (tie.spec block-size-requires sub-from hold-requires add-t14 returns)
+take-field-spec = tie.close (tie.spec block-size-requires sub-from hold-requires further-requires returns)

@@ -1,0 +1,87 @@
+/* In a file of its own, so that no compiler sees into the calls that it makes. */
+#include "by_value.h"
+#include <stdbool.h>
+#include <string.h>
+
+garoalva_packed handed_over(garoalva_session session, uint8_t *memory, size_t memory_length, const uint8_t *bytes,
+                            size_t length) {
+    (void)memory;
+    (void)bytes;
+    return (garoalva_packed){.session = session, .answer = GAROALVA_DONE, .taken = length, .written = memory_length};
+}
+
+static uint64_t begins(const garoalva_entry *e, uint64_t repeat) {
+    return e->start + repeat * ((uint64_t)e->count + e->skip);
+}
+
+/* The layout's bytes, or 0 where it doesn't fit the memory. */
+static uint64_t total_of(const garoalva_layout *l, uint64_t memory_length) {
+    if (l->used == 0 || l->used > GAROALVA_ENTRIES || l->repeat == 0 ||
+        (uint64_t)l->used * l->repeat > GAROALVA_PIECES || memory_length > GAROALVA_MEMORY_LIMIT)
+        return 0;
+    uint64_t sum = 0;
+    for (uint32_t i = 0; i < l->used; i++) {
+        const garoalva_entry *e = &l->entries[i];
+        if (e->count == 0 || e->start > memory_length || begins(e, l->repeat - 1) + e->count > memory_length)
+            return 0;
+        sum += e->count;
+    }
+    sum *= l->repeat;
+    return sum <= memory_length ? sum : 0;
+}
+
+static bool is_slot(uint32_t type, uint32_t actual, uint32_t expected, uint32_t offset, uint32_t spare) {
+    return spare == 0 && (type == 0 ? (actual | expected | offset) == 0 : type <= GAROALVA_ERROR_APPLICATION);
+}
+
+static bool passes(const garoalva_session *s, uint64_t total) {
+    const garoalva_key *k = &s->key;
+    const garoalva_signature *g = &k->signature;
+    return s->seal == 0x4741524F53455301 && k->seal == 0x4741524F4B455901 && k->configured == 1 && total > 0 &&
+           g->memory.kind == 0 && g->wire.kind == 0 && g->attribute_flags == 0 && g->spare == 0 &&
+           is_slot(k->error_type, k->error_actual, k->error_expected, k->error_offset, k->spare) &&
+           is_slot(s->error_type, s->error_actual, s->error_expected, s->error_offset, s->spare) && s->input_odd < 2 &&
+           s->output_odd < 2 && s->length <= total && s->start <= total - s->length && s->input_index <= s->length &&
+           s->output_index == s->input_index && s->input_at == 0 && s->output_at == 0;
+}
+
+/* Stores the bytes along the layout from this place on. */
+static void place(const garoalva_layout *l, uint64_t total, uint64_t at, uint8_t *memory, const uint8_t *bytes,
+                  size_t length) {
+    uint64_t span = total / l->repeat, repeat = at / span, x = at % span;
+    uint32_t i = 0;
+    while (length > 0) {
+        const garoalva_entry *e = &l->entries[i];
+        if (x < e->count) {
+            size_t run = e->count - x < length ? e->count - x : length;
+            memcpy(memory + begins(e, repeat) + x, bytes, run);
+            bytes += run;
+            length -= run;
+            x = 0;
+        } else {
+            x -= e->count;
+        }
+        if (++i == l->used) {
+            i = 0;
+            repeat++;
+        }
+    }
+}
+
+garoalva_packed packet_by_hand(garoalva_session session, uint8_t *memory, size_t memory_length, const uint8_t *bytes,
+                               size_t length) {
+    garoalva_packed packed = {.session = session};
+    uint64_t total = total_of(&session.key.layout, session.key.memory_length);
+    if (!passes(&session, total)) {
+        packed.answer = GAROALVA_NOT_A_SESSION;
+    } else if (memory_length != session.key.memory_length) {
+        packed.answer = GAROALVA_MEMORY_LENGTH;
+    } else if (length > session.length - session.input_index) {
+        packed.answer = GAROALVA_LONG_PACKET;
+    } else {
+        place(&session.key.layout, total, session.start + session.input_index, memory, bytes, length);
+        packed.taken = packed.written = packed.session.input_index = packed.session.output_index =
+            session.input_index + length;
+    }
+    return packed;
+}

@@ -1,0 +1,15 @@
+/* Calls in C that take and give what garoalva_packet does, by value. */
+#ifndef BY_VALUE_H
+#define BY_VALUE_H
+
+#include <garoalva.h>
+
+/* Does nothing. */
+garoalva_packed handed_over(garoalva_session session, uint8_t *memory, size_t memory_length, const uint8_t *bytes,
+                            size_t length);
+/* The packet call by hand, without a proof and for sessions with no signature: any other is none to it. It tests the
+ * record as garoalva_packet must, so that no record makes it touch a byte that was not lent. */
+garoalva_packed packet_by_hand(garoalva_session session, uint8_t *memory, size_t memory_length, const uint8_t *bytes,
+                               size_t length);
+
+#endif
