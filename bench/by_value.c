@@ -70,18 +70,15 @@ static void place(const garoalva_layout *l, uint64_t total, uint64_t at, uint8_t
 
 garoalva_packed packet_by_hand(garoalva_session session, uint8_t *memory, size_t memory_length, const uint8_t *bytes,
                                size_t length) {
-    garoalva_packed packed = {.session = session};
     uint64_t total = total_of(&session.key.layout, session.key.memory_length);
-    if (!passes(&session, total)) {
-        packed.answer = GAROALVA_NOT_A_SESSION;
-    } else if (memory_length != session.key.memory_length) {
-        packed.answer = GAROALVA_MEMORY_LENGTH;
-    } else if (length > session.length - session.input_index) {
-        packed.answer = GAROALVA_LONG_PACKET;
-    } else {
-        place(&session.key.layout, total, session.start + session.input_index, memory, bytes, length);
-        packed.taken = packed.written = packed.session.input_index = packed.session.output_index =
-            session.input_index + length;
-    }
-    return packed;
+    if (!passes(&session, total))
+        return (garoalva_packed){.session = session, .answer = GAROALVA_NOT_A_SESSION};
+    if (memory_length != session.key.memory_length)
+        return (garoalva_packed){.session = session, .answer = GAROALVA_MEMORY_LENGTH};
+    if (length > session.length - session.input_index)
+        return (garoalva_packed){.session = session, .answer = GAROALVA_LONG_PACKET};
+    place(&session.key.layout, total, session.start + session.input_index, memory, bytes, length);
+    session.input_index += length;
+    session.output_index = session.input_index;
+    return (garoalva_packed){.session = session, .taken = session.input_index, .written = session.input_index};
 }

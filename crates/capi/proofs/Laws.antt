@@ -139,33 +139,45 @@ key-passes k came = rw (flag-passes (k .configured), proper-passes (k .slot), ke
 
 -- ---- sessions
 
--- A record that passes as a session, and whose held bytes are eight, as their type says.
-pub session-told : (r : SessionRecord) → isSession r ≡ true → length (r .held) ≡ 8 → Underway (sessionIn r)
-unfolding isSession
-session-told r h e =
-    let a = both (isKey (r .key)) _ h in
-    let b = both (eqb (r .seal) sessionSeal && isFlag (r .«input_odd») && isFlag (r .«output_odd») && eqb (r .spare) 0 && proper (sessionNumbers r)) (underway (sessionIn r)) (a .1) in
-    underway-told (sessionIn r) (key-told (r .key) (a .0) .usable) (b .1) e
+-- A record that passes as a session.
+record SessionTold (r : SessionRecord) : Type 0 where
+  pub key : isKey (r .key) ≡ true
+  pub seal : r .seal ≡ sessionSeal
+  pub inputOdd : r .«input_odd» ≡ flag (eqb (r .«input_odd») 1)
+  pub outputOdd : r .«output_odd» ≡ flag (eqb (r .«output_odd») 1)
+  pub spare : r .spare ≡ 0
+  pub numbers : sessionNumbers r ≡ numbersOf (slotIn (sessionNumbers r))
+  pub underway : underway (sessionIn r) ≡ true
 
-pub session-back : (r : SessionRecord) → isSession r ≡ true → sessionRecord (sessionIn r) ≡ r
+told : (r : SessionRecord) → isSession r ≡ true → SessionTold r
 unfolding isSession
-session-back r h =
+told r h =
     let a = both (isKey (r .key)) _ h in
     let b = both (eqb (r .seal) sessionSeal && isFlag (r .«input_odd») && isFlag (r .«output_odd») && eqb (r .spare) 0 && proper (sessionNumbers r)) (underway (sessionIn r)) (a .1) in
     let c = both (eqb (r .seal) sessionSeal && isFlag (r .«input_odd») && isFlag (r .«output_odd») && eqb (r .spare) 0) (proper (sessionNumbers r)) (b .0) in
-    let g = both (eqb (r .seal) sessionSeal && isFlag (r .«input_odd») && isFlag (r .«output_odd»)) (eqb (r .spare) 0) (c .0) in
-    let d = both (eqb (r .seal) sessionSeal && isFlag (r .«input_odd»)) (isFlag (r .«output_odd»)) (g .0) in
-    let f = both (eqb (r .seal) sessionSeal) (isFlag (r .«input_odd»)) (d .0) in
-    let i = eqb-true (r .«input_odd») (flag (eqb (r .«input_odd») 1)) (f .1) in
-    let o = eqb-true (r .«output_odd») (flag (eqb (r .«output_odd») 1)) (d .1) in
-    rw (
-      key-back (r .key) (a .0),
-      sym (alike-told (sessionNumbers r) (numbersOf (slotIn (sessionNumbers r))) (c .1)),
-      ← i,
-      ← o,
-      sym (eqb-true (r .seal) sessionSeal (f .0)),
-      sym (eqb-true (r .spare) 0 (g .1)),
-    ) refl
+    let d = both (eqb (r .seal) sessionSeal && isFlag (r .«input_odd») && isFlag (r .«output_odd»)) (eqb (r .spare) 0) (c .0) in
+    let f = both (eqb (r .seal) sessionSeal && isFlag (r .«input_odd»)) (isFlag (r .«output_odd»)) (d .0) in
+    let g = both (eqb (r .seal) sessionSeal) (isFlag (r .«input_odd»)) (f .0) in
+    record {
+      key = a .0;
+      seal = eqb-true (r .seal) sessionSeal (g .0);
+      inputOdd = eqb-true (r .«input_odd») (flag (eqb (r .«input_odd») 1)) (g .1);
+      outputOdd = eqb-true (r .«output_odd») (flag (eqb (r .«output_odd») 1)) (f .1);
+      spare = eqb-true (r .spare) 0 (d .1);
+      numbers = alike-told (sessionNumbers r) (numbersOf (slotIn (sessionNumbers r))) (c .1);
+      underway = b .1;
+    }
+
+-- It is under way, if its held bytes are eight, as their type says.
+pub session-told : (r : SessionRecord) → isSession r ≡ true → length (r .held) ≡ 8 → Underway (sessionIn r)
+session-told r h e =
+    let t = told r h in
+    underway-told (sessionIn r) (key-told (r .key) (t .key) .usable) (t .underway) e
+
+pub session-back : (r : SessionRecord) → isSession r ≡ true → sessionRecord (sessionIn r) ≡ r
+session-back r h =
+    let t = told r h in
+    rw (key-back (r .key) (t .key), sym (t .numbers), ← t .inputOdd, ← t .outputOdd, sym (t .seal), sym (t .spare)) refl
 
 -- A packet changes nothing of a session but its progress.
 pub packed-session : (s : Session) (n : ℕ) (bytes : List ℕ) → let p = packing s n bytes in p .session ≡ further s (p .session .progress)
