@@ -6,12 +6,24 @@ pub mod settled;
 use crate::model::{Configuration, Domain, Entry, Layout, Rule, Signature};
 use crate::script::{Call, BUFFER_SIZE};
 
+/// How many bytes the two buffers of a case have.
+#[derive(Clone, Copy)]
+pub struct Buffers {
+    pub memory: usize,
+    pub wire: usize,
+}
+
+impl Buffers {
+    /// REPLAY.md's.
+    pub const REPLAY: Buffers = Buffers { memory: BUFFER_SIZE, wire: BUFFER_SIZE };
+}
+
 /// A case starts from REPLAY.md's first state.
 #[derive(Clone)]
 pub struct Case {
     pub name: String,
-    /// Bytes of the memory buffer: more than REPLAY.md's in a few cases that can only be run live.
-    pub memory_size: usize,
+    /// Larger than REPLAY.md's in a few cases that can only be run live.
+    pub buffers: Buffers,
     pub calls: Vec<Call>,
 }
 
@@ -19,7 +31,7 @@ impl Case {
     /// A case with a fresh key and patterns in both buffers, so that it can also follow another.
     pub fn named(name: impl Into<String>) -> Case {
         let calls = vec![Call::New, Call::FillMemory { pattern: 1 }, Call::FillWire { pattern: 2 }];
-        Case { name: name.into(), memory_size: BUFFER_SIZE, calls }
+        Case { name: name.into(), buffers: Buffers::REPLAY, calls }
     }
 
     pub fn then(mut self, call: Call) -> Case {

@@ -6,9 +6,9 @@ mod library;
 mod state;
 mod watch;
 
-use crate::cases::{random, settled, Case};
+use crate::cases::{random, settled, Buffers, Case};
 use crate::model::{check_numbers, BlockError};
-use crate::script::{Call, Machine, BUFFER_SIZE};
+use crate::script::{Call, Machine};
 use crate::shrink::shrink;
 use state::State;
 use std::io::{stderr, IsTerminal, Write};
@@ -35,7 +35,7 @@ pub fn live(count: u64, seed: u64, from: u64) -> Result<(), String> {
 fn run_settled() -> Result<(usize, usize), String> {
     watch::begin("wrong seals".to_string());
     let mut calls = hostile::run_wrong_seals()?;
-    let cases = [settled::cases(), vec![settled::large_memory()]].concat();
+    let cases = [settled::cases(), settled::large_cases()].concat();
     for case in &cases {
         watch::begin(format!("settled case {}", case.name));
         calls += run_case(case)?;
@@ -53,7 +53,7 @@ fn run_number(seed: u64, number: u64) -> Result<usize, String> {
 }
 
 fn run_case(case: &Case) -> Result<usize, String> {
-    match compare(&case.calls, case.memory_size) {
+    match compare(&case.calls, case.buffers) {
         None => Ok(case.calls.len()),
         Some(_) => Err(report(case)),
     }
@@ -61,9 +61,9 @@ fn run_case(case: &Case) -> Result<usize, String> {
 
 /// The case made small, with what was expected and what came.
 fn report(case: &Case) -> String {
-    let calls = shrink(&case.calls, |calls| compare(calls, case.memory_size).is_some());
+    let calls = shrink(&case.calls, |calls| compare(calls, case.buffers).is_some());
     let mut report = format!("{}: the library differs from the model. Made small:\n", case.name);
-    let difference = compare(&calls, case.memory_size).expect("a shrunk case still differs");
+    let difference = compare(&calls, case.buffers).expect("a shrunk case still differs");
     for call in &calls[..=difference.at] {
         report += &format!("  {}\n", call.text());
     }
@@ -77,9 +77,9 @@ struct Difference {
 }
 
 /// Runs the calls on both sides: the first difference.
-fn compare(calls: &[Call], memory_size: usize) -> Option<Difference> {
-    let mut model = Machine::new(memory_size, BUFFER_SIZE);
-    let mut state = State::new(memory_size, BUFFER_SIZE);
+fn compare(calls: &[Call], buffers: Buffers) -> Option<Difference> {
+    let mut model = Machine::new(buffers.memory, buffers.wire);
+    let mut state = State::new(buffers.memory, buffers.wire);
     for (at, call) in calls.iter().enumerate() {
         if !model.fits(call) || !model.keeps_premise(call) {
             return None;

@@ -5,7 +5,7 @@ mod damage;
 mod layouts;
 pub mod plans;
 
-use super::{Case, Direction, Plan};
+use super::{Buffers, Case, Direction, Plan};
 use crate::rng::Rng;
 use crate::script::{Call, Machine, BUFFER_SIZE};
 
@@ -20,7 +20,7 @@ pub fn case(seed: u64, number: u64) -> Case {
             _ => draft.border_transfers(),
         }
     }
-    Case { name: format!("random case {number} of seed {seed}"), memory_size: BUFFER_SIZE, calls: draft.calls }
+    Case { name: format!("random case {number} of seed {seed}"), buffers: Buffers::REPLAY, calls: draft.calls }
 }
 
 /// A case in the making, and the model's state after its calls.

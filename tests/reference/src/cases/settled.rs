@@ -5,15 +5,18 @@ mod packets;
 mod paper;
 mod rules;
 
-use super::{entry, list_layout, Case, Plan};
+use super::{entry, list_layout, Buffers, Case, Plan};
 use crate::model::{Configuration, Domain, Signature, CRC, REMAP, T10_DIF};
 use crate::script::Call;
-
-pub use answers::large_memory;
 
 /// All settled cases that fit REPLAY.md's buffers.
 pub fn cases() -> Vec<Case> {
     [paper::cases(), answers::cases(), rules::cases(), packets::cases()].concat()
+}
+
+/// Those that take larger buffers.
+pub fn large_cases() -> Vec<Case> {
+    vec![answers::large_memory(), rules::longest_stream()]
 }
 
 /// Case A's domain.

@@ -290,5 +290,5 @@ pub fn large_memory() -> Case {
         .then_all([Call::Check, beyond.open(), plan.open()])
         .then_all(packets)
         .then_all([Call::Finish, Call::Check]);
-    Case { memory_size: MEMORY_LIMIT as usize + 1, ..case }
+    Case { buffers: Buffers { memory: MEMORY_LIMIT as usize + 1, ..Buffers::REPLAY }, ..case }
 }

@@ -2,7 +2,7 @@
 
 use super::*;
 use crate::cases::{repeated_layout, Direction};
-use crate::model::{Layout, CHECKSUM, COPY_MASK_GIVEN};
+use crate::model::{Layout, CHECKSUM, COPY_MASK_GIVEN, MEMORY_LIMIT};
 
 pub fn cases() -> Vec<Case> {
     [directions_and_sides(), copying(), escapes(), error_slot()].concat()
@@ -210,4 +210,16 @@ fn offset_in_the_stream() -> Case {
         plan.send(),
         Call::Check,
     ])
+}
+
+/// The longest stream there is, with its last block damaged: no error lies further on.
+pub fn longest_stream() -> Case {
+    let plan = plan(signature(unsigned(), dif()), MEMORY_LIMIT);
+    let wire = plan.wire_stream();
+    let damaged = plan.set_input(Direction::Receive, wire - 8, 0x55);
+    let cut = wire - 5;
+    let case = Case::named("the longest stream")
+        .then_all([plan.configure(), plan.send(), damaged, plan.receive(), Call::Check])
+        .then_all([plan.open(), plan.packet(0, cut), plan.packet(cut, wire - cut), Call::Finish, Call::Check]);
+    Case { buffers: Buffers { memory: MEMORY_LIMIT as usize, wire: wire as usize }, ..case }
 }
