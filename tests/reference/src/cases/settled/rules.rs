@@ -214,7 +214,7 @@ fn offset_in_the_stream() -> Case {
 
 /// The longest stream there is, with its last block damaged: no error lies further on.
 pub fn longest_stream() -> Case {
-    let plan = plan(signature(unsigned(), dif()), MEMORY_LIMIT);
+    let plan = plan(signature(unsigned(), Domain { guard_type: CHECKSUM, ..dif() }), MEMORY_LIMIT);
     let wire = plan.wire_stream();
     let damaged = plan.set_input(Direction::Receive, wire - 8, 0x55);
     let cut = wire - 5;
