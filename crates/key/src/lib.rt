@@ -77,8 +77,7 @@ pub struct Configuration {
 }
 
 // A bad field: its part, what the input domain's rule gives, what was found, and where its block begins in the input
-// stream. No stream has 2^32 bytes; with a wider offset the slot has seven bytes behind its tag that mean nothing, and
-// copying those costs more than the rest.
+// stream. No stream has 2^32 bytes, and with a wider offset a slot has seven idle bytes behind its tag, whose copies stall.
 pub struct Error {
     pub part: Part,
     pub actual: u32,

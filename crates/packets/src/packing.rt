@@ -61,6 +61,7 @@ pub fn packet(session: Session, memory: &mut [u8], bytes: &[u8]) -> Packed
     let key = session.key;
     let start = session.start;
     let before = session.progress;
+    // A local of its own: the compiler hands on the record's, where it would copy a part of the key.
     let layout = key.layout;
     let rule = transfer::receive_rule(key.signature);
     let at = layout::walk(layout, start.ahead(engine::written(rule, before)));
