@@ -4,11 +4,10 @@
 
 #include "scene.h"
 
-enum { BLOCK_SIZES = 4, PLAIN_COUNTS = 6, FEW_PLAIN_COUNTS = 2 };
+enum { BLOCK_SIZES = 4, PLAIN_COUNTS = 6 };
 
 extern const size_t block_sizes[BLOCK_SIZES];
-/* Numbers of pieces of 4,096 bytes over which unsigned transfers are held to memcpy; over the first few, which are
- * mostly the fixed cost of a call, they are only reported. */
+/* Numbers of pieces of 4,096 bytes over which unsigned transfers are held to memcpy. */
 extern const size_t plain_counts[PLAIN_COUNTS];
 
 /* The worst figure of its kind, and where it was seen. */
@@ -19,8 +18,8 @@ struct finding {
 };
 
 struct findings {
-    struct finding call_growth[SIGNINGS];   /* cost per byte, dearest length to the shortest, over the same memory */
-    struct finding length_growth[SIGNINGS]; /* the same in buffers of their own, to memcpy's growth */
+    struct finding length_growth[SIGNINGS]; /* cost per byte, dearest length to the shortest */
+    struct finding call_growth[SIGNINGS];   /* the same over the same memory */
     struct finding plain_to_memcpy[PLAIN_COUNTS];
     struct finding checksum_to_loop[BLOCK_SIZES];
     struct finding packets_to_call[SIGNINGS]; /* time */

@@ -68,25 +68,12 @@ static void print_figures(enum signing signing, const struct figures *f) {
     fflush(stdout);
 }
 
-static double memcpy_growth(const struct figures *f, size_t row) {
-    return growth(f, rows[row].direction == SEND ? COPIED_SENT : COPIED_RECEIVED);
-}
-
 static void keep_growth(struct finding *found, const struct figures *f) {
     for (size_t row = 0; row < OUR_ROWS; row++) {
         char where[48];
-        snprintf(where, sizeof where, "%s; memcpy %.2f", rows[row].name, memcpy_growth(f, row));
+        size_t copied = rows[row].direction == SEND ? COPIED_SENT : COPIED_RECEIVED;
+        snprintf(where, sizeof where, "%s; memcpy %.2f", rows[row].name, growth(f, copied));
         keep_highest(found, growth(f, row), where);
-    }
-}
-
-/* Where the caches meet the columns unlike: no program's cost is flat there, and ours is held to memcpy's. */
-static void keep_growth_to_memcpy(struct finding *found, const struct figures *f) {
-    for (size_t row = 0; row < OUR_ROWS; row++) {
-        char where[48];
-        double ours = growth(f, row), copied = memcpy_growth(f, row);
-        snprintf(where, sizeof where, "%s %.2f; memcpy %.2f", rows[row].name, ours, copied);
-        keep_highest(found, ours / copied, where);
     }
 }
 
@@ -122,7 +109,7 @@ void print_lengths(struct effort effort, struct findings *found) {
             measure_column((struct shape){signing, BLOCK, blocks, 1}, effort, f.cost[j]);
         }
         print_figures(signing, &f);
-        keep_growth_to_memcpy(&found->length_growth[signing], &f);
+        keep_growth(&found->length_growth[signing], &f);
     }
 }
 

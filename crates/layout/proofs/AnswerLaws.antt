@@ -16,7 +16,7 @@ use Rattle.layout.specs.declared.answer.Verdict.the-variants.{Sound, Mal
 use Rattle.layout.specs.declared.answer.Extent.{Extent}
 use Rattle.layout.specs.Pieces.{Piece, end, piece, inUse, repeats, pieces, span, total, from, placesOf, places}
 use Rattle.layout.specs.Moves.{Within, Placed, Distinct, Below}
-use Rattle.layout.specs.Answers.{someCountZero, miscounted, malformed, someBeyond, share, sharesWith, someShare, verdictOn, fits}
+use Rattle.layout.specs.Answers.{someCountZero, miscounted, malformed, someBeyond, spanWithin, share, sharesWith, someShare, verdictOn, fits}
 use Rattle.layout.specs.Steps.{none, Shaped, Fits, Spans, nowhere}
 use Rattle.layout.proofs.PieceLaws.{size-repeats, in-use-from, length-from, getD-from}
 
@@ -214,7 +214,7 @@ measured-end n r s u es i h = rw (drop-of-length-le (take u es) {i = i} (omega (
 -- of a layout, whose last repeat alone decides
 pub measured-all :
     (n : ℕ) (l : Layout) → 0 < l .repeat
-    → measured n (l .repeat - 1) 0 (inUse l) ≡ cond (someCountZero (inUse l) || someBeyond n (pieces l)) 0 (span (inUse l))
+    → measured n (l .repeat - 1) 0 (inUse l) ≡ spanWithin l n
 measured-all n l h = rw (beyond-pieces n l h, zero-add (span (inUse l)))
 
 -- ---- 7: the search for two pieces that share a byte
@@ -401,7 +401,7 @@ at-most a b = go (leb a b) refl
     go false e = rw (lt-ltb b a (leb-false a b e))
 
 -- the walk that measures a layout finds all that is wrong with it but its total
-module _ (l : Layout) (n s : ℕ) (e : s ≡ cond (someCountZero (inUse l) || someBeyond n (pieces l)) 0 (span (inUse l))) where
+module _ (l : Layout) (n s : ℕ) (e : s ≡ spanWithin l n) where
   pub fits-not : 0 < length (inUse l) → s ≡ 0 → fits l n ≡ false
   unfolding fits malformed
   fits-not h z = go (miscounted (l .used) (l .repeat)) (someCountZero (inUse l)) (someBeyond n (pieces l)) (span-none (inUse l) h) (sym e ∙ z)

@@ -7,7 +7,7 @@ use Rattle.layout.specs.declared.Entry.{Entry}
 use Rattle.layout.specs.declared.Layout.{Layout}
 use Rattle.layout.specs.declared.answer.Verdict.{Verdict}
 use Rattle.layout.specs.declared.answer.Verdict.the-variants.{Sound, Malformed, Outside, Overlapping}
-use Rattle.layout.specs.Pieces.{Piece, end, inUse, pieces, total}
+use Rattle.layout.specs.Pieces.{Piece, end, inUse, pieces, span, total}
 
 -- an entry's count is 0
 unfoldable pub someCountZero : List Entry → Bool
@@ -26,6 +26,10 @@ malformed l = miscounted (l .used) (l .repeat) || someCountZero (inUse l)
 unfoldable pub someBeyond : ℕ → List Piece → Bool
 someBeyond n [] = false
 someBeyond n (p ∷ ps) = ltb n (end p) || someBeyond n ps
+
+-- the bytes of one repeat, or 0 where answer 5 or 6 takes the layout for a count or a piece
+abbrev pub spanWithin : Layout → ℕ → ℕ
+spanWithin l n = cond (someCountZero (inUse l) || someBeyond n (pieces l)) 0 (span (inUse l))
 
 -- two pieces share a byte: one that is at or past both starts and before both ends
 abbrev pub share : Piece → Piece → Bool

@@ -12,6 +12,10 @@ use Rattle.layout.specs.Moves.{Placed}
 abbrev pub none : Entry
 none = record { start = record { 0 = 0 }; count = 0; skip = 0 }
 
+-- So many entries and repeats are neither too few nor too many.
+abbrev pub Counted : Layout → Type 0
+Counted l = (0 < l .used) × (l .used ≤ 16) × (0 < l .repeat) × (l .used * l .repeat ≤ 1024)
+
 -- What answer 5 leaves: how many entries and repeats there are, and that no entry is empty.
 pub record Shaped (l : Layout) : Type 0 where
   pub some : 0 < l .used

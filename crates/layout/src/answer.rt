@@ -1,12 +1,12 @@
 // Answers 5, 6 and 7.
 ghost use mathlib.Core.Path.{_≡_};
-ghost use mathlib.Core.Bool.{_||_, cond};
+ghost use mathlib.Core.Bool.{cond};
 ghost use Prim.Native.Nat.{_*_, _<_, _≤_, _-_, _^_, min, max};
 ghost use lib.Dec.{ltb};
-ghost use Rattle.layout.specs.Pieces.{end, inUse, piece, pieces, span};
+ghost use Rattle.layout.specs.Pieces.{end, inUse, piece, pieces};
 ghost use Rattle.layout.specs.Moves.{Within};
 ghost use Rattle.layout.specs.Answers as answers;
-ghost use Rattle.layout.specs.Steps.{Shaped, Spans};
+ghost use Rattle.layout.specs.Steps.{Counted, Shaped, Spans};
 use crate::Entry;
 use crate::Layout;
 use crate::numbers::greater;
@@ -152,8 +152,8 @@ fn measure(e: Entry, last: u64, memory_length: u64) -> u64
 // The bytes of a repeat, or 0 where an entry is empty or a piece ends beyond the memory. A layout with one entry is
 // measured without a copy.
 fn measured(l: Layout, memory_length: u64) -> u64
-    requires { ⌜ (0 < l .used) × (l .used ≤ 16) × (0 < l .repeat) × (l .used * l .repeat ≤ 1024) ⌝ }
-    ensures { λ r. ⌜ (r ≡ cond (answers.someCountZero (inUse l) || answers.someBeyond «memory_length» (pieces l)) 0 (span (inUse l))) × (r ≤ l .used * 4294967295) ⌝ }
+    requires { ⌜ Counted l ⌝ }
+    ensures { λ r. ⌜ (r ≡ answers.spanWithin l «memory_length») × (r ≤ l .used * 4294967295) ⌝ }
 {
     if l.used == 1 {
         let e = l.entries[0];
@@ -165,8 +165,8 @@ fn measured(l: Layout, memory_length: u64) -> u64
 
 // The same entry by entry. One walk for both tests and the sum: each walk copies the layout.
 fn measured_each(l: Layout, memory_length: u64) -> u64
-    requires { ⌜ (0 < l .used) × (l .used ≤ 16) × (0 < l .repeat) × (l .used * l .repeat ≤ 1024) ⌝ }
-    ensures { λ r. ⌜ (r ≡ cond (answers.someCountZero (inUse l) || answers.someBeyond «memory_length» (pieces l)) 0 (span (inUse l))) × (r ≤ l .used * 4294967295) ⌝ }
+    requires { ⌜ Counted l ⌝ }
+    ensures { λ r. ⌜ (r ≡ answers.spanWithin l «memory_length») × (r ≤ l .used * 4294967295) ⌝ }
 {
     let used = l.used as usize;
     let last = (l.repeat - 1) as u64;
