@@ -44,9 +44,10 @@ build/libgaroalva.so: build/$(SHARED)
 test: test-header test-c test-rust
 	tests/run
 
+# -Wpadded: where padding takes the rest of a field that is too narrow, sizes and offsets stay as asserted.
 test-header:
-	echo '#include "garoalva.h"' | $(CC) -x c -std=c11 $(WARNINGS) -Iinclude -fsyntax-only -
-	echo '#include "garoalva.h"' | $(CXX) -x c++ -std=c++11 $(WARNINGS) -Iinclude -fsyntax-only -
+	echo '#include "garoalva.h"' | $(CC) -x c -std=c11 $(WARNINGS) -Wpadded -Iinclude -fsyntax-only -
+	echo '#include "garoalva.h"' | $(CXX) -x c++ -std=c++11 $(WARNINGS) -Wpadded -Iinclude -fsyntax-only -
 
 # Both libraries, linked as docs/LINKING.md says.
 test-c: all

@@ -232,33 +232,118 @@ garoalva_abandoned garoalva_abandon(garoalva_session session);
 
 #ifdef __cplusplus
 }
-#define GAROALVA_ASSERT_SIZE static_assert
+#define GAROALVA_ASSERT static_assert
 #else
-#define GAROALVA_ASSERT_SIZE _Static_assert
+#define GAROALVA_ASSERT _Static_assert
 #endif
 
-GAROALVA_ASSERT_SIZE(sizeof(garoalva_domain) == 24, "no padding");
-GAROALVA_ASSERT_SIZE(sizeof(garoalva_entry) == 16, "no padding");
-GAROALVA_ASSERT_SIZE(sizeof(garoalva_layout) == 264, "no padding");
-GAROALVA_ASSERT_SIZE(sizeof(garoalva_signature) == 56, "no padding");
-GAROALVA_ASSERT_SIZE(sizeof(garoalva_configuration) == 320, "no padding");
-GAROALVA_ASSERT_SIZE(sizeof(garoalva_key) == 360, "no padding");
-GAROALVA_ASSERT_SIZE(offsetof(garoalva_key, layout) == 16, "layout");
-GAROALVA_ASSERT_SIZE(offsetof(garoalva_key, signature) == 280, "signature");
-GAROALVA_ASSERT_SIZE(offsetof(garoalva_key, error_offset) == 352, "error");
-GAROALVA_ASSERT_SIZE(sizeof(garoalva_session) == 456, "no padding");
-GAROALVA_ASSERT_SIZE(offsetof(garoalva_session, key) == 8, "key");
-GAROALVA_ASSERT_SIZE(offsetof(garoalva_session, start) == 368, "start");
-GAROALVA_ASSERT_SIZE(offsetof(garoalva_session, input_guard) == 416, "guards");
-GAROALVA_ASSERT_SIZE(offsetof(garoalva_session, held) == 448, "held");
-GAROALVA_ASSERT_SIZE(sizeof(garoalva_configured) == 368, "no padding");
-GAROALVA_ASSERT_SIZE(sizeof(garoalva_transferred) == 384, "no padding");
-GAROALVA_ASSERT_SIZE(sizeof(garoalva_checked) == 400, "no padding");
-GAROALVA_ASSERT_SIZE(sizeof(garoalva_opened) == 824, "no padding");
-GAROALVA_ASSERT_SIZE(sizeof(garoalva_packed) == 480, "no padding");
-GAROALVA_ASSERT_SIZE(sizeof(garoalva_finished) == 824, "no padding");
-GAROALVA_ASSERT_SIZE(sizeof(garoalva_abandoned) == 368, "no padding");
+/* The records as the library has them, byte for byte: how long each is, and where each of its fields begins. */
+#define GAROALVA_SIZE(record, size) GAROALVA_ASSERT(sizeof(garoalva_##record) == (size), #record)
+#define GAROALVA_AT(record, field, at) GAROALVA_ASSERT(offsetof(garoalva_##record, field) == (at), #record "." #field)
 
-#undef GAROALVA_ASSERT_SIZE
+GAROALVA_SIZE(domain, 24);
+GAROALVA_AT(domain, kind, 0);
+GAROALVA_AT(domain, block_size, 4);
+GAROALVA_AT(domain, guard_type, 8);
+GAROALVA_AT(domain, reference_tag, 12);
+GAROALVA_AT(domain, seed, 16);
+GAROALVA_AT(domain, application_tag, 18);
+GAROALVA_AT(domain, flags, 20);
+
+GAROALVA_SIZE(entry, 16);
+GAROALVA_AT(entry, start, 0);
+GAROALVA_AT(entry, count, 8);
+GAROALVA_AT(entry, skip, 12);
+
+GAROALVA_SIZE(layout, 264);
+GAROALVA_AT(layout, entries, 0);
+GAROALVA_AT(layout, used, 256);
+GAROALVA_AT(layout, repeat, 260);
+
+GAROALVA_SIZE(signature, 56);
+GAROALVA_AT(signature, memory, 0);
+GAROALVA_AT(signature, wire, 24);
+GAROALVA_AT(signature, attribute_flags, 48);
+GAROALVA_AT(signature, check_mask, 52);
+GAROALVA_AT(signature, copy_mask, 53);
+GAROALVA_AT(signature, spare, 54);
+
+GAROALVA_SIZE(configuration, 320);
+GAROALVA_AT(configuration, layout, 0);
+GAROALVA_AT(configuration, signature, 264);
+
+GAROALVA_SIZE(key, 360);
+GAROALVA_AT(key, seal, 0);
+GAROALVA_AT(key, memory_length, 8);
+GAROALVA_AT(key, layout, 16);
+GAROALVA_AT(key, signature, 280);
+GAROALVA_AT(key, configured, 336);
+GAROALVA_AT(key, error_type, 340);
+GAROALVA_AT(key, error_actual, 344);
+GAROALVA_AT(key, error_expected, 348);
+GAROALVA_AT(key, error_offset, 352);
+GAROALVA_AT(key, spare, 356);
+
+GAROALVA_SIZE(session, 456);
+GAROALVA_AT(session, seal, 0);
+GAROALVA_AT(session, key, 8);
+GAROALVA_AT(session, start, 368);
+GAROALVA_AT(session, length, 376);
+GAROALVA_AT(session, input_index, 384);
+GAROALVA_AT(session, input_at, 392);
+GAROALVA_AT(session, output_index, 400);
+GAROALVA_AT(session, output_at, 408);
+GAROALVA_AT(session, input_guard, 416);
+GAROALVA_AT(session, output_guard, 418);
+GAROALVA_AT(session, input_odd, 420);
+GAROALVA_AT(session, output_odd, 424);
+GAROALVA_AT(session, error_type, 428);
+GAROALVA_AT(session, error_actual, 432);
+GAROALVA_AT(session, error_expected, 436);
+GAROALVA_AT(session, error_offset, 440);
+GAROALVA_AT(session, spare, 444);
+GAROALVA_AT(session, held, 448);
+
+GAROALVA_SIZE(configured, 368);
+GAROALVA_AT(configured, key, 0);
+GAROALVA_AT(configured, answer, 360);
+
+GAROALVA_SIZE(transferred, 384);
+GAROALVA_AT(transferred, key, 0);
+GAROALVA_AT(transferred, answer, 360);
+GAROALVA_AT(transferred, taken, 368);
+GAROALVA_AT(transferred, written, 376);
+
+GAROALVA_SIZE(checked, 400);
+GAROALVA_AT(checked, key, 0);
+GAROALVA_AT(checked, answer, 360);
+GAROALVA_AT(checked, type, 368);
+GAROALVA_AT(checked, actual, 376);
+GAROALVA_AT(checked, expected, 384);
+GAROALVA_AT(checked, offset, 392);
+
+GAROALVA_SIZE(opened, 824);
+GAROALVA_AT(opened, key, 0);
+GAROALVA_AT(opened, session, 360);
+GAROALVA_AT(opened, answer, 816);
+
+GAROALVA_SIZE(packed, 480);
+GAROALVA_AT(packed, session, 0);
+GAROALVA_AT(packed, answer, 456);
+GAROALVA_AT(packed, taken, 464);
+GAROALVA_AT(packed, written, 472);
+
+GAROALVA_SIZE(finished, 824);
+GAROALVA_AT(finished, key, 0);
+GAROALVA_AT(finished, session, 360);
+GAROALVA_AT(finished, answer, 816);
+
+GAROALVA_SIZE(abandoned, 368);
+GAROALVA_AT(abandoned, key, 0);
+GAROALVA_AT(abandoned, answer, 360);
+
+#undef GAROALVA_AT
+#undef GAROALVA_SIZE
+#undef GAROALVA_ASSERT
 
 #endif
