@@ -140,30 +140,43 @@ pub struct Abandoned {
     pub answer: u64,
 }
 
-// The same sizes and places as the header asserts: nothing else holds the two to each other.
-const _: () = {
-    assert!(size_of::<Domain>() == 24);
-    assert!(size_of::<Entry>() == 16);
-    assert!(size_of::<Layout>() == 264);
-    assert!(size_of::<Signature>() == 56);
-    assert!(size_of::<Configuration>() == 320);
-    assert!(size_of::<Key>() == 360);
-    assert!(offset_of!(Key, layout) == 16);
-    assert!(offset_of!(Key, signature) == 280);
-    assert!(offset_of!(Key, error_offset) == 352);
-    assert!(size_of::<Session>() == 456);
-    assert!(offset_of!(Session, key) == 8);
-    assert!(offset_of!(Session, start) == 368);
-    assert!(offset_of!(Session, input_guard) == 416);
-    assert!(offset_of!(Session, held) == 448);
-    assert!(size_of::<Configured>() == 368);
-    assert!(size_of::<Transferred>() == 384);
-    assert!(size_of::<Checked>() == 400);
-    assert!(size_of::<Opened>() == 824);
-    assert!(size_of::<Packed>() == 480);
-    assert!(size_of::<Finished>() == 824);
-    assert!(size_of::<Abandoned>() == 368);
-};
+/// Asserts each record's size and where each of its fields begins. No field may be left out, and none so narrow that
+/// padding follows it.
+macro_rules! assert_places {
+    ($($record:ident $size:literal: $($field:ident $at:literal),*;)*) => {
+        $(const _: () = {
+            let _ = |$record { $($field: _),* }: $record| ();
+            assert!(size_of::<$record>() == $size);
+            $(assert!(offset_of!($record, $field) == $at);)*
+            assert!(0 $(+ field_size(|record: &$record| &record.$field))* == $size);
+        };)*
+    };
+}
+
+const fn field_size<R, F>(_field: fn(&R) -> &F) -> usize {
+    size_of::<F>()
+}
+
+// The same numbers as the header asserts: nothing else holds the two to each other.
+assert_places! {
+    Domain 24: kind 0, block_size 4, guard_type 8, reference_tag 12, seed 16, application_tag 18, flags 20;
+    Entry 16: start 0, count 8, skip 12;
+    Layout 264: entries 0, used 256, repeat 260;
+    Signature 56: memory 0, wire 24, attribute_flags 48, check_mask 52, copy_mask 53, spare 54;
+    Configuration 320: layout 0, signature 264;
+    Key 360: seal 0, memory_length 8, layout 16, signature 280, configured 336, error_type 340, error_actual 344,
+        error_expected 348, error_offset 352, spare 356;
+    Session 456: seal 0, key 8, start 368, length 376, input_index 384, input_at 392, output_index 400, output_at 408,
+        input_guard 416, output_guard 418, input_odd 420, output_odd 424, error_type 428, error_actual 432,
+        error_expected 436, error_offset 440, spare 444, held 448;
+    Configured 368: key 0, answer 360;
+    Transferred 384: key 0, answer 360, taken 368, written 376;
+    Checked 400: key 0, answer 360, error_type 368, actual 376, expected 384, offset 392;
+    Opened 824: key 0, session 360, answer 816;
+    Packed 480: session 0, answer 456, taken 464, written 472;
+    Finished 824: key 0, session 360, answer 816;
+    Abandoned 368: key 0, answer 360;
+}
 
 // Calls that are lent no memory are safe: they answer for every record.
 unsafe extern "C" {
