@@ -40,11 +40,12 @@ fn receive_by_packets(key: Key, memory: &mut [u8], wire: &[u8]) -> Result<Key, B
     Ok(session.finish()?)
 }
 
-fn print_check(key: &mut Key) {
-    match key.check() {
+fn print_check(key: &mut Key) -> Result<(), Refusal> {
+    match key.check()? {
         None => println!("check: no error"),
         Some(error) => println!("check: {error}"),
     }
+    Ok(())
 }
 
 fn main() -> Result<(), Box<dyn Error>> {
@@ -55,10 +56,10 @@ fn main() -> Result<(), Box<dyn Error>> {
     let Transferred { taken, written } = key.send(&memory, &mut wire, START, DATA as u64)?;
     println!("sent: {taken} taken, {written} written");
     let mut key = receive_by_packets(key, &mut memory, &wire)?;
-    print_check(&mut key);
+    print_check(&mut key)?;
     wire[3 * UNIT + 100] ^= 1;
     println!("damaged: one bit of block 3");
     let mut key = receive_by_packets(key, &mut memory, &wire)?;
-    print_check(&mut key);
+    print_check(&mut key)?;
     Ok(())
 }

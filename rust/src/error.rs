@@ -1,9 +1,9 @@
 //! What check tells.
 
 use std::error::Error;
-use std::fmt::{Display, Formatter, Result};
+use std::fmt::{Display, Formatter};
 
-use crate::ffi;
+use crate::{ffi, Refusal};
 
 /// A part of the eight bytes behind a block.
 #[derive(Clone, Copy, Debug, PartialEq, Eq)]
@@ -30,24 +30,26 @@ pub struct BlockError {
 }
 
 impl BlockError {
-    pub(crate) fn of(checked: &ffi::Checked) -> Option<Self> {
+    pub(crate) fn of(checked: &ffi::Checked) -> Result<Option<Self>, Refusal> {
+        Refusal::unless_done(checked.answer)?;
         let field = match checked.error_type {
-            0 => return None,
+            0 => return Ok(None),
             1 => Field::Guard,
             2 => Field::ReferenceTag,
-            _ => Field::ApplicationTag, // 3: there is no other type
+            3 => Field::ApplicationTag,
+            other => return Err(Refusal::Unknown(other)),
         };
-        Some(BlockError {
+        Ok(Some(BlockError {
             field,
             actual: checked.actual as u32, // no field is wider
             expected: checked.expected as u32,
             offset: checked.offset,
-        })
+        }))
     }
 }
 
 impl Display for Field {
-    fn fmt(&self, f: &mut Formatter<'_>) -> Result {
+    fn fmt(&self, f: &mut Formatter<'_>) -> std::fmt::Result {
         f.write_str(match self {
             Field::Guard => "guard",
             Field::ApplicationTag => "application tag",
@@ -57,7 +59,7 @@ impl Display for Field {
 }
 
 impl Display for BlockError {
-    fn fmt(&self, f: &mut Formatter<'_>) -> Result {
+    fn fmt(&self, f: &mut Formatter<'_>) -> std::fmt::Result {
         let digits = match self.field {
             Field::Guard | Field::ApplicationTag => 4,
             Field::ReferenceTag => 8,

@@ -53,7 +53,7 @@ pub struct Configuration {
 #[derive(Clone, Copy)]
 #[repr(C)]
 pub struct Key {
-    seal: u64,
+    pub seal: u64,
     memory_length: u64,
     layout: Layout,
     signature: Signature,
@@ -68,7 +68,7 @@ pub struct Key {
 #[derive(Clone, Copy)]
 #[repr(C)]
 pub struct Session {
-    seal: u64,
+    pub seal: u64,
     key: Key,
     start: u64,
     length: u64,

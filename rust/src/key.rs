@@ -19,7 +19,7 @@ pub struct Transferred {
 /// It can't be cloned: each error would be told twice, and a check of one key would leave the other's slot filled. For
 /// a second key with the same configuration, keep the [`Configuration`] and configure a new one.
 pub struct Key {
-    raw: ffi::Key,
+    pub(crate) raw: ffi::Key,
 }
 
 /// An open that was refused, and the key as it was.
@@ -46,7 +46,7 @@ impl Key {
     pub fn configure(&mut self, memory: &[u8], configuration: &Configuration) -> Result<(), Refusal> {
         let configured = ffi::configure(self.raw, memory, configuration.raw());
         self.raw = configured.key;
-        Refusal::of(configured.answer).map_or(Ok(()), Err)
+        Refusal::unless_done(configured.answer)
     }
 
     /// Memory to wire: `length` data bytes, whose memory stream begins at `offset`. Wire bytes past the stream stay as
@@ -74,27 +74,28 @@ impl Key {
 
     fn transferred(&mut self, transferred: ffi::Transferred) -> Result<Transferred, Refusal> {
         self.raw = transferred.key;
-        let totals = Transferred {
+        Refusal::unless_done(transferred.answer)?;
+        Ok(Transferred {
             taken: transferred.taken,
             written: transferred.written,
-        };
-        Refusal::of(transferred.answer).map_or(Ok(totals), Err)
+        })
     }
 
-    /// The first error since the last check, which is then forgotten.
-    pub fn check(&mut self) -> Option<BlockError> {
+    /// The first error since the last check, which is then forgotten. Only a library of another version than this
+    /// crate's refuses to tell it.
+    pub fn check(&mut self) -> Result<Option<BlockError>, Refusal> {
         let checked = ffi::check(self.raw);
+        let error = BlockError::of(&checked)?;
         self.raw = checked.key;
-        BlockError::of(&checked)
+        Ok(error)
     }
 
     /// Begins a receive by packets of `length` data bytes, whose memory stream begins at `offset`.
-    #[allow(clippy::result_large_err)] // a box would put an allocation in the way of each transfer
     pub fn open(self, memory: &[u8], offset: LayoutOffset, length: u64) -> Result<Session, OpenRefused> {
         let opened = ffi::open(self.raw, memory, offset.0, length);
-        match Refusal::of(opened.answer) {
-            None => Ok(Session::from_raw(opened.session)),
-            Some(refusal) => Err(OpenRefused {
+        match Refusal::unless_done(opened.answer) {
+            Ok(()) => Ok(Session::from_raw(opened.session)),
+            Err(refusal) => Err(OpenRefused {
                 key: Key::from_raw(opened.key),
                 refusal,
             }),

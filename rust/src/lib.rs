@@ -56,18 +56,19 @@
 //! let mut key = session.finish()?;
 //!
 //! assert_eq!(memory[47], 2); // the data came as it was on the wire,
-//! let error = key.check().ok_or("the damage was missed")?; // and check tells what was wrong with it
+//! let error = key.check()?.ok_or("the damage was missed")?; // and check tells what was wrong with it
 //! assert_eq!((error.field, error.offset), (Field::Guard, 16));
 //! assert_eq!(
 //!     error.to_string(),
 //!     "bad guard in the block at byte 16 of the input stream: its field says 0x0000, the rule gives 0x9CD9"
 //! );
-//! assert_eq!(key.check(), None);
+//! assert_eq!(key.check()?, None);
 //! # Ok(())
 //! # }
 //! ```
 
 #![deny(missing_docs, unsafe_code)]
+#![allow(clippy::result_large_err)] // a box would put an allocation in the way of each transfer
 
 mod configuration;
 mod domain;
@@ -78,6 +79,8 @@ mod key;
 mod layout;
 mod refusal;
 mod session;
+#[cfg(test)]
+mod tests;
 
 pub use configuration::{Configuration, Copying, Mask, Signature};
 pub use domain::{Domain, Escape, Guard, Seed, T10Dif};
@@ -85,4 +88,4 @@ pub use error::{BlockError, Field};
 pub use key::{Key, OpenRefused, Transferred};
 pub use layout::{Entry, Layout, LayoutOffset, MemoryOffset};
 pub use refusal::Refusal;
-pub use session::{FinishRefused, Session};
+pub use session::{EndRefused, Session};

@@ -39,7 +39,8 @@ pub enum Refusal {
     NotAKey,
     /// The session is not one of the linked library's version. This crate's sessions are.
     NotASession,
-    /// A number that this crate has no name for: the linked library is of another version.
+    /// An answer, or an error's type from check, that this crate has no name for: the linked library is of another
+    /// version.
     Unknown(u64),
 }
 
@@ -86,13 +87,13 @@ impl Refusal {
         }
     }
 
-    /// The refusal that an answer stands for, if it is one.
-    pub(crate) fn of(answer: u64) -> Option<Refusal> {
+    /// The refusal that an answer stands for, if it is not that of a call that was done.
+    pub(crate) fn unless_done(answer: u64) -> Result<(), Refusal> {
         if answer == 0 {
-            return None;
+            return Ok(());
         }
         let named = NAMED.into_iter().find(|refusal| refusal.number() == answer);
-        Some(named.unwrap_or(Refusal::Unknown(answer)))
+        Err(named.unwrap_or(Refusal::Unknown(answer)))
     }
 }
 
@@ -118,7 +119,7 @@ impl Display for Refusal {
             Refusal::NotAKey => "the key is not one of the linked library's version",
             Refusal::NotASession => "the session is not one of the linked library's version",
             Refusal::Unknown(number) => {
-                return write!(f, "the linked library refused with {number}, which has no name here")
+                return write!(f, "the linked library answered {number}, which has no name here")
             }
         })
     }

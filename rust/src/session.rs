@@ -12,8 +12,8 @@ use crate::{ffi, Key, Refusal, Transferred};
 ///
 /// ```compile_fail,E0382
 /// fn twice(session: garoalva::Session) {
-///     session.abandon();
-///     session.abandon();
+///     let _ = session.abandon();
+///     let _ = session.abandon();
 /// }
 /// ```
 ///
@@ -25,13 +25,13 @@ use crate::{ffi, Key, Refusal, Transferred};
 /// ```
 #[must_use = "a session that is dropped takes its key with it"]
 pub struct Session {
-    raw: ffi::Session,
+    pub(crate) raw: ffi::Session,
 }
 
-/// A finish that came too early, and the session as it was.
+/// A finish or abandon that was refused, and the session as it was.
 #[derive(Debug)]
-pub struct FinishRefused {
-    /// The session given to finish.
+pub struct EndRefused {
+    /// The session given to finish or abandon.
     pub session: Session,
     /// Why it was refused.
     pub refusal: Refusal,
@@ -47,30 +47,32 @@ impl Session {
     pub fn packet(&mut self, memory: &mut [u8], bytes: &[u8]) -> Result<Transferred, Refusal> {
         let packed = ffi::packet(self.raw, memory, bytes);
         self.raw = packed.session;
-        let totals = Transferred {
+        Refusal::unless_done(packed.answer)?;
+        Ok(Transferred {
             taken: packed.taken,
             written: packed.written,
-        };
-        Refusal::of(packed.answer).map_or(Ok(totals), Err)
+        })
     }
 
     /// Ends the transfer once all wire bytes have come. The key has the first error found: see [`Key::check`].
-    #[allow(clippy::result_large_err)] // a box would put an allocation in the way of each transfer
-    pub fn finish(self) -> Result<Key, FinishRefused> {
+    pub fn finish(self) -> Result<Key, EndRefused> {
         let finished = ffi::finish(self.raw);
-        match Refusal::of(finished.answer) {
-            None => Ok(Key::from_raw(finished.key)),
-            Some(refusal) => Err(FinishRefused {
-                session: Session::from_raw(finished.session),
-                refusal,
-            }),
-        }
+        self.ended(finished.answer, finished.key)
     }
 
     /// Ends the transfer where it stands. What has come stays in memory, and the key has the first error of the whole
-    /// blocks among it.
-    pub fn abandon(self) -> Key {
-        Key::from_raw(ffi::abandon(self.raw).key)
+    /// blocks among it. Only a library of another version than this crate's refuses that.
+    pub fn abandon(self) -> Result<Key, EndRefused> {
+        let abandoned = ffi::abandon(self.raw);
+        self.ended(abandoned.answer, abandoned.key)
+    }
+
+    /// The key given back, or this session where the end was refused.
+    fn ended(self, answer: u64, key: ffi::Key) -> Result<Key, EndRefused> {
+        match Refusal::unless_done(answer) {
+            Ok(()) => Ok(Key::from_raw(key)),
+            Err(refusal) => Err(EndRefused { session: self, refusal }),
+        }
     }
 }
 
@@ -80,10 +82,10 @@ impl Debug for Session {
     }
 }
 
-impl Display for FinishRefused {
+impl Display for EndRefused {
     fn fmt(&self, f: &mut Formatter<'_>) -> std::fmt::Result {
-        write!(f, "finish was refused: {}", self.refusal)
+        write!(f, "the session did not end: {}", self.refusal)
     }
 }
 
-impl Error for FinishRefused {}
+impl Error for EndRefused {}

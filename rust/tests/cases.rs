@@ -11,7 +11,7 @@ fn received(configuration: &Configuration, wire: &[u8]) -> Option<BlockError> {
     assert_eq!(key.receive(&mut memory, wire, START, 16), totals(32, 16));
     assert_eq!(memory[..8], wire[..8]);
     assert_eq!(memory[8..], wire[16..24]);
-    key.check()
+    key.check().unwrap()
 }
 
 fn damaged() -> [u8; 32] {
@@ -37,7 +37,7 @@ fn case_a_sends_the_fields_and_nothing_past_the_stream() {
     assert_eq!(key.send(&DATA, &mut wire, START, 16), totals(16, 32));
     assert_eq!(wire[..32], WIRE);
     assert_eq!(wire[32..], [0xEE; 8]);
-    assert_eq!(key.check(), None);
+    assert_eq!(key.check(), Ok(None));
 }
 
 #[test]
@@ -160,6 +160,6 @@ fn the_first_error_stays_until_check() {
     other[0] = 1;
     key.receive(&mut memory, &other, START, 16).unwrap();
     key.configure(&memory, &case_a()).unwrap();
-    assert_eq!(key.check().map(|error| error.offset), Some(16));
-    assert_eq!(key.check(), None);
+    assert_eq!(key.check().unwrap().map(|error| error.offset), Some(16));
+    assert_eq!(key.check(), Ok(None));
 }

@@ -163,17 +163,21 @@ fn packets_too_long_and_a_finish_too_early() {
     assert_eq!(memory[8..], [0xAA; 8]);
     let early = session.finish().unwrap_err();
     assert_eq!(early.refusal, Refusal::BytesToCome);
+    assert_eq!(
+        early.to_string(),
+        "the session did not end: not all wire bytes have come"
+    );
     session = early.session;
     assert_eq!(session.packet(&mut memory, &WIRE[9..]), totals(32, 16));
     assert_eq!(memory, DATA);
-    assert_eq!(session.finish().unwrap().check(), None);
+    assert_eq!(session.finish().unwrap().check(), Ok(None));
 }
 
 #[test]
 fn a_key_that_was_never_configured() {
     let mut key = Key::new();
     let mut memory = DATA;
-    assert_eq!(key.check(), None);
+    assert_eq!(key.check(), Ok(None));
     assert_eq!(key.send(&DATA, &mut [0; 32], START, 16), Err(Refusal::NotConfigured));
     assert_eq!(key.receive(&mut memory, &WIRE, START, 16), Err(Refusal::NotConfigured));
     assert_eq!(key.open(&DATA, START, 16).unwrap_err().refusal, Refusal::NotConfigured);
@@ -197,6 +201,6 @@ fn refusals_have_numbers_and_words() {
     assert_eq!(Refusal::Unknown(77).number(), 77);
     assert_eq!(
         Refusal::Unknown(77).to_string(),
-        "the linked library refused with 77, which has no name here"
+        "the linked library answered 77, which has no name here"
     );
 }
