@@ -117,6 +117,14 @@ typedef struct {
     garoalva_signature signature;
 } garoalva_configuration;
 
+/* The first error of a key or session; all four are 0 where there is none. */
+typedef struct {
+    uint32_t type;
+    uint32_t actual;
+    uint32_t expected;
+    uint32_t offset;
+} garoalva_error;
+
 /* A key: the library's own record. */
 typedef struct {
     uint64_t seal;
@@ -124,12 +132,18 @@ typedef struct {
     garoalva_layout layout;
     garoalva_signature signature;
     uint32_t configured;
-    uint32_t error_type;
-    uint32_t error_actual;
-    uint32_t error_expected;
-    uint32_t error_offset;
+    garoalva_error error;
     uint32_t spare;
 } garoalva_key;
+
+/* Where a stream stands: its block under way, how far into it, and its guard so far. */
+typedef struct {
+    uint64_t index;
+    uint64_t at;
+    uint32_t odd;
+    uint16_t guard;
+    uint16_t spare;
+} garoalva_side;
 
 /* A received transfer under way: the library's own record. */
 typedef struct {
@@ -137,19 +151,9 @@ typedef struct {
     garoalva_key key;
     uint64_t start;
     uint64_t length;
-    uint64_t input_index;
-    uint64_t input_at;
-    uint64_t output_index;
-    uint64_t output_at;
-    uint16_t input_guard;
-    uint16_t output_guard;
-    uint32_t input_odd;
-    uint32_t output_odd;
-    uint32_t error_type;
-    uint32_t error_actual;
-    uint32_t error_expected;
-    uint32_t error_offset;
-    uint32_t spare;
+    garoalva_side input;
+    garoalva_side output;
+    garoalva_error error;
     uint8_t held[8];
 } garoalva_session;
 
@@ -177,7 +181,7 @@ typedef struct {
 
 typedef struct {
     garoalva_key key;          /* where refused, the key given */
-    garoalva_session session;  /* where done */
+    garoalva_session session;  /* where done; else a record that is no session */
     uint64_t answer;
 } garoalva_opened;
 
@@ -189,13 +193,13 @@ typedef struct {
 } garoalva_packed;
 
 typedef struct {
-    garoalva_key key;          /* where done */
-    garoalva_session session;  /* where refused, the session given */
+    garoalva_key key;          /* where done; else a record that is no key */
+    garoalva_session session;  /* where refused, the session given; else a record that is none */
     uint64_t answer;
 } garoalva_finished;
 
 typedef struct {
-    garoalva_key key;
+    garoalva_key key;          /* where done; else a record that is no key */
     uint64_t answer;           /* 0, or GAROALVA_NOT_A_SESSION */
 } garoalva_abandoned;
 
@@ -272,36 +276,36 @@ GAROALVA_SIZE(configuration, 320);
 GAROALVA_AT(configuration, layout, 0);
 GAROALVA_AT(configuration, signature, 264);
 
+GAROALVA_SIZE(error, 16);
+GAROALVA_AT(error, type, 0);
+GAROALVA_AT(error, actual, 4);
+GAROALVA_AT(error, expected, 8);
+GAROALVA_AT(error, offset, 12);
+
 GAROALVA_SIZE(key, 360);
 GAROALVA_AT(key, seal, 0);
 GAROALVA_AT(key, memory_length, 8);
 GAROALVA_AT(key, layout, 16);
 GAROALVA_AT(key, signature, 280);
 GAROALVA_AT(key, configured, 336);
-GAROALVA_AT(key, error_type, 340);
-GAROALVA_AT(key, error_actual, 344);
-GAROALVA_AT(key, error_expected, 348);
-GAROALVA_AT(key, error_offset, 352);
+GAROALVA_AT(key, error, 340);
 GAROALVA_AT(key, spare, 356);
+
+GAROALVA_SIZE(side, 24);
+GAROALVA_AT(side, index, 0);
+GAROALVA_AT(side, at, 8);
+GAROALVA_AT(side, odd, 16);
+GAROALVA_AT(side, guard, 20);
+GAROALVA_AT(side, spare, 22);
 
 GAROALVA_SIZE(session, 456);
 GAROALVA_AT(session, seal, 0);
 GAROALVA_AT(session, key, 8);
 GAROALVA_AT(session, start, 368);
 GAROALVA_AT(session, length, 376);
-GAROALVA_AT(session, input_index, 384);
-GAROALVA_AT(session, input_at, 392);
-GAROALVA_AT(session, output_index, 400);
-GAROALVA_AT(session, output_at, 408);
-GAROALVA_AT(session, input_guard, 416);
-GAROALVA_AT(session, output_guard, 418);
-GAROALVA_AT(session, input_odd, 420);
-GAROALVA_AT(session, output_odd, 424);
-GAROALVA_AT(session, error_type, 428);
-GAROALVA_AT(session, error_actual, 432);
-GAROALVA_AT(session, error_expected, 436);
-GAROALVA_AT(session, error_offset, 440);
-GAROALVA_AT(session, spare, 444);
+GAROALVA_AT(session, input, 384);
+GAROALVA_AT(session, output, 408);
+GAROALVA_AT(session, error, 432);
 GAROALVA_AT(session, held, 448);
 
 GAROALVA_SIZE(configured, 368);

@@ -52,17 +52,33 @@ pub struct Configuration {
 
 #[derive(Clone, Copy)]
 #[repr(C)]
+pub struct Error {
+    kind: u32,
+    actual: u32,
+    expected: u32,
+    offset: u32,
+}
+
+#[derive(Clone, Copy)]
+#[repr(C)]
 pub struct Key {
     pub seal: u64,
     memory_length: u64,
     layout: Layout,
     signature: Signature,
     configured: u32,
-    error_type: u32,
-    error_actual: u32,
-    error_expected: u32,
-    error_offset: u32,
+    error: Error,
     spare: u32,
+}
+
+#[derive(Clone, Copy)]
+#[repr(C)]
+pub struct Side {
+    index: u64,
+    at: u64,
+    odd: u32,
+    guard: u16,
+    spare: u16,
 }
 
 #[derive(Clone, Copy)]
@@ -72,19 +88,9 @@ pub struct Session {
     key: Key,
     start: u64,
     length: u64,
-    input_index: u64,
-    input_at: u64,
-    output_index: u64,
-    output_at: u64,
-    input_guard: u16,
-    output_guard: u16,
-    input_odd: u32,
-    output_odd: u32,
-    error_type: u32,
-    error_actual: u32,
-    error_expected: u32,
-    error_offset: u32,
-    spare: u32,
+    input: Side,
+    output: Side,
+    error: Error,
     held: [u8; 8],
 }
 
@@ -164,11 +170,10 @@ assert_places! {
     Layout 264: entries 0, used 256, repeat 260;
     Signature 56: memory 0, wire 24, attribute_flags 48, check_mask 52, copy_mask 53, spare 54;
     Configuration 320: layout 0, signature 264;
-    Key 360: seal 0, memory_length 8, layout 16, signature 280, configured 336, error_type 340, error_actual 344,
-        error_expected 348, error_offset 352, spare 356;
-    Session 456: seal 0, key 8, start 368, length 376, input_index 384, input_at 392, output_index 400, output_at 408,
-        input_guard 416, output_guard 418, input_odd 420, output_odd 424, error_type 428, error_actual 432,
-        error_expected 436, error_offset 440, spare 444, held 448;
+    Error 16: kind 0, actual 4, expected 8, offset 12;
+    Key 360: seal 0, memory_length 8, layout 16, signature 280, configured 336, error 340, spare 356;
+    Side 24: index 0, at 8, odd 16, guard 20, spare 22;
+    Session 456: seal 0, key 8, start 368, length 376, input 384, output 408, error 432, held 448;
     Configured 368: key 0, answer 360;
     Transferred 384: key 0, answer 360, taken 368, written 376;
     Checked 400: key 0, answer 360, error_type 368, actual 376, expected 384, offset 392;

@@ -10,7 +10,7 @@ use Rattle.capi.specs.declared.SessionRecord.{SessionRecord}
 use Rattle.capi.specs.Records.{keyIn, keyRecord, isKey, sessionIn, sessionRecord, isSession}
 use Rattle.capi.specs.Border.{configureAtBorder, sendAtBorder, wireAtBorder, receiveAtBorder, memoryAtBorder, checkAtBorder, openAtBorder, packetAtBorder, packetMemoryAtBorder, finishAtBorder, abandonAtBorder}
 use Rattle.capi.specs.Cases.{ActsAs, NoKey, SessionActsAs, NoSession, Border}
-use Rattle.capi.proofs.Laws.{key-round, session-round, key-told, key-back, key-passes, session-told, session-back, session-passes}
+use Rattle.capi.proofs.Laws.{key-round, session-round, key-told, key-back, key-passes, session-told, session-back, session-passes, no-key, no-session}
 
 acts : (r : KeyRecord) → isKey r ≡ true → ActsAs r (keyIn r)
 unfolding configureAtBorder sendAtBorder wireAtBorder receiveAtBorder memoryAtBorder checkAtBorder openAtBorder
@@ -32,7 +32,7 @@ fails r h = record {
   «open» = λ n x count. rw h refl;
 }
 
-session-acts : (r : SessionRecord) → isSession r ≡ true → SessionActsAs r (sessionIn r)
+pub session-acts : (r : SessionRecord) → isSession r ≡ true → SessionActsAs r (sessionIn r)
 unfolding packetAtBorder packetMemoryAtBorder finishAtBorder abandonAtBorder
 session-acts r h = record { packet = λ memory bytes. rw h (refl, refl); finish = rw h refl; abandon = rw h refl }
 
@@ -52,8 +52,10 @@ border = record {
   sessionRound = session-round;
   keyCame = came;
   sessionCame = session-came;
-  keyPasses = λ r h. (acts r h, key-told r h .usable, key-back r h);
+  keyPasses = λ r h. (acts r h, key-told r h .usable, key-back r h, key-told r h .never);
   sessionPasses = λ r h e. (session-acts r h, session-told r h e, session-back r h);
   keyFails = fails;
   sessionFails = session-fails;
+  noKey = no-key;
+  noSession = no-session;
 }

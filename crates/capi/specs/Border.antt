@@ -18,6 +18,7 @@ use Rattle.packets.specs.declared.Abandoned.{Abandoned}
 use Rattle.packets.specs.Sessions.{opening, packing, memoryPacked, finishing, abandoning}
 use Rattle.capi.specs.declared.ConfigurationRecord.{ConfigurationRecord}
 use Rattle.capi.specs.declared.KeyRecord.{KeyRecord}
+use Rattle.capi.specs.declared.SideRecord.{SideRecord}
 use Rattle.capi.specs.declared.SessionRecord.{SessionRecord}
 use Rattle.capi.specs.declared.ConfiguredRecord.{ConfiguredRecord}
 use Rattle.capi.specs.declared.TransferredRecord.{TransferredRecord}
@@ -26,7 +27,7 @@ use Rattle.capi.specs.declared.OpenedRecord.{OpenedRecord}
 use Rattle.capi.specs.declared.PackedRecord.{PackedRecord}
 use Rattle.capi.specs.declared.FinishedRecord.{FinishedRecord}
 use Rattle.capi.specs.declared.AbandonedRecord.{AbandonedRecord}
-use Rattle.capi.specs.Records.{configurationIn, keyIn, keyRecord, isKey, sessionIn, sessionRecord, isSession}
+use Rattle.capi.specs.Records.{noError, configurationIn, keyIn, keyRecord, isKey, sessionIn, sessionRecord, isSession}
 
 -- our own number for a record that is no key
 abbrev pub notKey : ℕ
@@ -50,28 +51,15 @@ transferredRecord t = record { key = keyRecord (t .key); answer = number (t .out
 abbrev pub checkedRecord : Checked → CheckedRecord
 checkedRecord c = record { key = keyRecord (c .key); answer = 0; kind = c .kind; actual = c .actual; expected = c .expected; offset = c .offset }
 
+-- A record that is no key: it bears no seal.
+abbrev pub unsealed : KeyRecord → KeyRecord
+unsealed k = record { seal = 0; «memory_length» = k .«memory_length»; layout = k .layout; signature = k .signature; configured = k .configured; error = k .error; spare = k .spare }
+
 -- A record that is no session: it bears no seal.
 abbrev pub noSession : KeyRecord → SessionRecord
-noSession k = record {
-  seal = 0;
-  key = k;
-  start = 0;
-  length = 0;
-  «input_index» = 0;
-  «input_at» = 0;
-  «output_index» = 0;
-  «output_at» = 0;
-  «input_guard» = 0;
-  «output_guard» = 0;
-  «input_odd» = 0;
-  «output_odd» = 0;
-  «error_type» = 0;
-  «error_actual» = 0;
-  «error_expected» = 0;
-  «error_offset» = 0;
-  spare = 0;
-  held = replicate 8 0;
-}
+noSession k =
+    let side : SideRecord = record { index = 0; at = 0; odd = 0; guard = 0; spare = 0 } in
+    record { seal = 0; key = k; start = 0; length = 0; input = side; output = side; error = noError; held = replicate 8 0 }
 
 -- an open's session where it was accepted
 abbrev pub sessionOpened : Outcome → Opened → SessionRecord
@@ -91,9 +79,14 @@ abbrev pub sessionFinished : Outcome → Finished → SessionRecord
 sessionFinished Done f = noSession (keyRecord (f .key))
 sessionFinished (Refused r) f = sessionRecord (f .session)
 
+-- a finish's key where it was accepted
+abbrev pub keyFinished : Outcome → Finished → KeyRecord
+keyFinished Done f = keyRecord (f .key)
+keyFinished (Refused r) f = unsealed (keyRecord (f .key))
+
 -- finish
 abbrev pub finishedRecord : Finished → FinishedRecord
-finishedRecord f = record { key = keyRecord (f .key); session = sessionFinished (f .outcome) f; answer = number (f .outcome) }
+finishedRecord f = record { key = keyFinished (f .outcome) f; session = sessionFinished (f .outcome) f; answer = number (f .outcome) }
 
 -- abandon
 abbrev pub abandonedRecord : Abandoned → AbandonedRecord
@@ -141,10 +134,10 @@ packetAtBorder r n bytes = cond (isSession r) (packedRecord (packing (sessionIn 
 unfoldable pub packetMemoryAtBorder : SessionRecord → List ℕ → List ℕ → List ℕ
 packetMemoryAtBorder r memory bytes = cond (isSession r) (memoryPacked (sessionIn r) memory bytes) memory
 
--- What a record that is no session gets besides its number: the key in it, as it stands, and itself.
+-- What a record that is no session gets besides its number: itself, and no key.
 unfoldable pub finishAtBorder : SessionRecord → FinishedRecord
-finishAtBorder r = cond (isSession r) (finishedRecord (finishing (sessionIn r))) (record { key = r .key; session = r; answer = notSession })
+finishAtBorder r = cond (isSession r) (finishedRecord (finishing (sessionIn r))) (record { key = unsealed (r .key); session = r; answer = notSession })
 
 -- garoalva_abandon
 unfoldable pub abandonAtBorder : SessionRecord → AbandonedRecord
-abandonAtBorder r = cond (isSession r) (abandonedRecord (abandoning (sessionIn r))) (record { key = r .key; answer = notSession })
+abandonAtBorder r = cond (isSession r) (abandonedRecord (abandoning (sessionIn r))) (record { key = unsealed (r .key); answer = notSession })

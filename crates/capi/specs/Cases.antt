@@ -5,6 +5,7 @@ use mathlib.Core.List.{List}
 use Prim.Native.Nat.{ℕ}
 use lib.ListN.{length}
 use Rattle.key.specs.declared.Key.{Key}
+use Rattle.key.specs.declared.Slot.the-variants.{Empty}
 use Rattle.key.specs.Keys.{configuring, checking, CameFromCalls, Usable}
 use Rattle.transfer.specs.Transferring.{sending, wireSent, receiving, memoryReceived}
 use Rattle.packets.specs.declared.Session.{Session}
@@ -13,7 +14,7 @@ use Rattle.capi.specs.declared.ConfigurationRecord.{ConfigurationRecord}
 use Rattle.capi.specs.declared.KeyRecord.{KeyRecord}
 use Rattle.capi.specs.declared.SessionRecord.{SessionRecord}
 use Rattle.capi.specs.Records.{configurationIn, keyIn, keyRecord, isKey, sessionIn, sessionRecord, isSession}
-use Rattle.capi.specs.Border.{notKey, notSession, notTransferred, configuredRecord, transferredRecord, checkedRecord, noSession, openedRecord, packedRecord, finishedRecord, abandonedRecord, configureAtBorder, sendAtBorder, wireAtBorder, receiveAtBorder, memoryAtBorder, checkAtBorder, openAtBorder, packetAtBorder, packetMemoryAtBorder, finishAtBorder, abandonAtBorder}
+use Rattle.capi.specs.Border.{notKey, notSession, notTransferred, configuredRecord, transferredRecord, checkedRecord, unsealed, noSession, openedRecord, packedRecord, finishedRecord, abandonedRecord, configureAtBorder, sendAtBorder, wireAtBorder, receiveAtBorder, memoryAtBorder, checkAtBorder, openAtBorder, packetAtBorder, packetMemoryAtBorder, finishAtBorder, abandonAtBorder}
 
 -- A key record stands for this key: each call gives what the call below gives for the key.
 pub record ActsAs (r : KeyRecord) (k : Key) : Type 0 where
@@ -42,8 +43,8 @@ pub record SessionActsAs (r : SessionRecord) (s : Session) : Type 0 where
 -- Any other record where a session is wanted.
 pub record NoSession (r : SessionRecord) : Type 0 where
   pub packet : (memory bytes : List ℕ) → (packetAtBorder r (length memory) bytes ≡ record { session = r; answer = notSession; taken = 0; written = 0 }) × (packetMemoryAtBorder r memory bytes ≡ memory)
-  pub finish : finishAtBorder r ≡ record { key = r .key; session = r; answer = notSession }
-  pub abandon : abandonAtBorder r ≡ record { key = r .key; answer = notSession }
+  pub finish : finishAtBorder r ≡ record { key = unsealed (r .key); session = r; answer = notSession }
+  pub abandon : abandonAtBorder r ≡ record { key = unsealed (r .key); answer = notSession }
 
 -- The border as a whole.
 pub record Border : Type 0 where
@@ -53,9 +54,12 @@ pub record Border : Type 0 where
   -- came from these calls
   pub keyCame : (k : Key) → CameFromCalls k → ActsAs (keyRecord k) k
   pub sessionCame : (s : Session) → SessionFromCalls s → SessionActsAs (sessionRecord s) s
-  -- passes the test: the calls below are safe on it, and what they hand back unchanged is the record as it was (a session's held bytes are eight by their type)
-  pub keyPasses : (r : KeyRecord) → isKey r ≡ true → ActsAs r (keyIn r) × Usable (keyIn r) × (keyRecord (keyIn r) ≡ r)
+  -- passes the test: the calls below are safe on it, and what they hand back unchanged is the record as it was (a session's held bytes are eight by their type); a key never configured holds no error
+  pub keyPasses : (r : KeyRecord) → isKey r ≡ true → ActsAs r (keyIn r) × Usable (keyIn r) × (keyRecord (keyIn r) ≡ r) × (keyIn r .configured ≡ false → keyIn r .slot ≡ Empty)
   pub sessionPasses : (r : SessionRecord) → isSession r ≡ true → length (r .held) ≡ 8 → SessionActsAs r (sessionIn r) × Underway (sessionIn r) × (sessionRecord (sessionIn r) ≡ r)
   -- fails it
   pub keyFails : (r : KeyRecord) → isKey r ≡ false → NoKey r
   pub sessionFails : (r : SessionRecord) → isSession r ≡ false → NoSession r
+  -- as does what comes back where there is no key or no session
+  pub noKey : (k : KeyRecord) → isKey (unsealed k) ≡ false
+  pub noSession : (k : KeyRecord) → isSession (noSession k) ≡ false

@@ -1,5 +1,5 @@
 -- Keys and sessions as records of numbers, there and back, and which records are a key or a session.
-use mathlib.Core.Bool.{Bool, cond, _&&_}
+use mathlib.Core.Bool.{Bool, cond, _&&_, _||_}
 use Prim.Native.Nat.{ℕ}
 use lib.Dec.{eqb}
 use Rattle.field.specs.declared.Part.{Part}
@@ -10,13 +10,15 @@ use Rattle.key.specs.declared.Key.{Key}
 use Rattle.key.specs.declared.Slot.{Slot}
 use Rattle.key.specs.declared.Slot.the-variants.{Empty, Holding}
 use Rattle.key.specs.Keys.{freshKey, checking, usable}
+use Rattle.engine.specs.declared.Side.{Side}
 use Rattle.packets.specs.declared.Session.{Session}
 use Rattle.packets.specs.Sessions.{underway}
 use Rattle.capi.specs.declared.SignatureRecord.{SignatureRecord}
 use Rattle.capi.specs.declared.ConfigurationRecord.{ConfigurationRecord}
+use Rattle.capi.specs.declared.ErrorRecord.{ErrorRecord}
 use Rattle.capi.specs.declared.KeyRecord.{KeyRecord}
+use Rattle.capi.specs.declared.SideRecord.{SideRecord}
 use Rattle.capi.specs.declared.SessionRecord.{SessionRecord}
-use Rattle.capi.specs.declared.converting.Numbers.{Numbers}
 
 -- a key's first word; its lowest byte is the version
 abbrev pub keySeal : ℕ
@@ -42,20 +44,24 @@ configurationIn r = record { signature = signatureIn (r .signature); layout = r 
 
 -- ---- the error slot
 
+-- an empty slot
+abbrev pub noError : ErrorRecord
+noError = record { kind = 0; actual = 0; expected = 0; offset = 0 }
+
 -- the four numbers that check answers for this slot
-unfoldable pub numbersOf : Slot → Numbers
-numbersOf s = record { kind = checking freshKey s .kind; actual = checking freshKey s .actual; expected = checking freshKey s .expected; offset = checking freshKey s .offset }
+unfoldable pub errorRecord : Slot → ErrorRecord
+errorRecord s = record { kind = checking freshKey s .kind; actual = checking freshKey s .actual; expected = checking freshKey s .expected; offset = checking freshKey s .offset }
 
 -- the field of an error type
 abbrev pub partOf : ℕ → Part
 partOf t = cond (eqb t 1) Guard (cond (eqb t 2) Reference Application)
 
--- the slot of four numbers; type 0 is an empty one
-unfoldable pub slotIn : Numbers → Slot
+-- the slot of four numbers; kind 0 is an empty one
+unfoldable pub slotIn : ErrorRecord → Slot
 slotIn n = cond (eqb (n .kind) 0) Empty (Holding (record { part = partOf (n .kind); actual = n .actual; expected = n .expected; offset = n .offset }))
 
 -- all four numbers are the same
-abbrev pub alike : Numbers → Numbers → Bool
+abbrev pub alike : ErrorRecord → ErrorRecord → Bool
 alike m n = eqb (m .kind) (n .kind) && eqb (m .actual) (n .actual) && eqb (m .expected) (n .expected) && eqb (m .offset) (n .offset)
 
 -- a Bool as a number
@@ -67,16 +73,13 @@ isFlag n = eqb n (flag (eqb n 1))
 
 -- ---- keys
 
-abbrev pub keyNumbers : KeyRecord → Numbers
-keyNumbers r = record { kind = r .«error_type»; actual = r .«error_actual»; expected = r .«error_expected»; offset = r .«error_offset» }
-
 abbrev pub keyIn : KeyRecord → Key
 keyIn r = record {
   configured = eqb (r .configured) 1;
   «memory_length» = r .«memory_length»;
   layout = r .layout;
   signature = signatureIn (r .signature);
-  slot = slotIn (keyNumbers r);
+  slot = slotIn (r .error);
 }
 
 abbrev pub keyRecord : Key → KeyRecord
@@ -86,25 +89,33 @@ keyRecord k = record {
   layout = k .layout;
   signature = signatureRecord (k .signature);
   configured = flag (k .configured);
-  «error_type» = numbersOf (k .slot) .kind;
-  «error_actual» = numbersOf (k .slot) .actual;
-  «error_expected» = numbersOf (k .slot) .expected;
-  «error_offset» = numbersOf (k .slot) .offset;
+  error = errorRecord (k .slot);
   spare = 0;
 }
 
 -- The numbers of an error slot are those that a slot has: turning them into a slot and back gives them again.
-abbrev pub proper : Numbers → Bool
-proper n = alike n (numbersOf (slotIn n))
+abbrev pub proper : ErrorRecord → Bool
+proper n = alike n (errorRecord (slotIn n))
+
+-- A key never configured holds no error.
+abbrev pub configuredOrEmpty : KeyRecord → Bool
+configuredOrEmpty r = eqb (r .configured) 1 || eqb (r .error .kind) 0
 
 -- A record is a key if it bears the seal, turning it into a key and back gives it again, and the key is one to work by.
 unfoldable pub isKey : KeyRecord → Bool
-isKey r = eqb (r .seal) keySeal && isFlag (r .configured) && eqb (r .signature .spare) 0 && eqb (r .spare) 0 && proper (keyNumbers r) && usable (keyIn r)
+isKey r = eqb (r .seal) keySeal && isFlag (r .configured) && eqb (r .signature .spare) 0 && eqb (r .spare) 0 && proper (r .error) && configuredOrEmpty r && usable (keyIn r)
 
 -- ---- sessions
 
-abbrev pub sessionNumbers : SessionRecord → Numbers
-sessionNumbers r = record { kind = r .«error_type»; actual = r .«error_actual»; expected = r .«error_expected»; offset = r .«error_offset» }
+abbrev pub sideIn : SideRecord → Side
+sideIn r = record { index = r .index; at = r .at; guard = record { value = r .guard; odd = eqb (r .odd) 1 } }
+
+abbrev pub sideRecord : Side → SideRecord
+sideRecord s = record { index = s .index; at = s .at; odd = flag (s .guard .odd); guard = s .guard .value; spare = 0 }
+
+-- turning it into a side and back gives it again
+abbrev pub isSide : SideRecord → Bool
+isSide r = isFlag (r .odd) && eqb (r .spare) 0
 
 abbrev pub sessionIn : SessionRecord → Session
 sessionIn r = record {
@@ -112,10 +123,10 @@ sessionIn r = record {
   start = record { 0 = r .start };
   length = r .length;
   progress = record {
-    input = record { index = r .«input_index»; at = r .«input_at»; guard = record { value = r .«input_guard»; odd = eqb (r .«input_odd») 1 } };
-    output = record { index = r .«output_index»; at = r .«output_at»; guard = record { value = r .«output_guard»; odd = eqb (r .«output_odd») 1 } };
+    input = sideIn (r .input);
+    output = sideIn (r .output);
     held = r .held;
-    slot = slotIn (sessionNumbers r);
+    slot = slotIn (r .error);
   };
 }
 
@@ -125,23 +136,13 @@ sessionRecord s = record {
   key = keyRecord (s .key);
   start = s .start .0;
   length = s .length;
-  «input_index» = s .progress .input .index;
-  «input_at» = s .progress .input .at;
-  «output_index» = s .progress .output .index;
-  «output_at» = s .progress .output .at;
-  «input_guard» = s .progress .input .guard .value;
-  «output_guard» = s .progress .output .guard .value;
-  «input_odd» = flag (s .progress .input .guard .odd);
-  «output_odd» = flag (s .progress .output .guard .odd);
-  «error_type» = numbersOf (s .progress .slot) .kind;
-  «error_actual» = numbersOf (s .progress .slot) .actual;
-  «error_expected» = numbersOf (s .progress .slot) .expected;
-  «error_offset» = numbersOf (s .progress .slot) .offset;
-  spare = 0;
+  input = sideRecord (s .progress .input);
+  output = sideRecord (s .progress .output);
+  error = errorRecord (s .progress .slot);
   held = s .progress .held;
 }
 
 -- The same of a session.
 unfoldable pub isSession : SessionRecord → Bool
 isSession r =
-    isKey (r .key) && (eqb (r .seal) sessionSeal && isFlag (r .«input_odd») && isFlag (r .«output_odd») && eqb (r .spare) 0 && proper (sessionNumbers r) && underway (sessionIn r))
+    isKey (r .key) && (eqb (r .seal) sessionSeal && isSide (r .input) && isSide (r .output) && proper (r .error) && underway (sessionIn r))

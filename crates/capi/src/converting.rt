@@ -5,10 +5,12 @@ ghost use Rattle.packets.specs.Sessions.{further};
 ghost use Rattle.capi.specs.Records as records;
 ghost use Rattle.capi.specs.Border as border;
 use crate::ConfigurationRecord;
+use crate::ErrorRecord;
 use crate::KEY_SEAL;
 use crate::KeyRecord;
 use crate::SESSION_SEAL;
 use crate::SessionRecord;
+use crate::SideRecord;
 use crate::SignatureRecord;
 use engine::Progress;
 use engine::Side;
@@ -22,27 +24,25 @@ use key::Slot;
 use layout::LayoutOffset;
 use packets::Session;
 
-// Check's four numbers.
-pub(crate) struct Numbers {
-    pub(crate) kind: u32,
-    pub(crate) actual: u32,
-    pub(crate) expected: u32,
-    pub(crate) offset: u32,
+fn no_error() -> ErrorRecord
+    ensures { λ r. ⌜ r ≡ records.noError ⌝ }
+{
+    ErrorRecord {
+        kind: 0,
+        actual: 0,
+        expected: 0,
+        offset: 0,
+    }
 }
 
-pub(crate) fn numbers_of(slot: Slot) -> Numbers
-    ensures { λ r. ⌜ r ≡ records.numbersOf slot ⌝ }
+pub(crate) fn error_record(slot: Slot) -> ErrorRecord
+    ensures { λ r. ⌜ r ≡ records.errorRecord slot ⌝ }
 {
     match slot {
-        Slot::Empty => Numbers {
-            kind: 0,
-            actual: 0,
-            expected: 0,
-            offset: 0,
-        },
+        Slot::Empty => no_error(),
         Slot::Holding(e) => {
             let part = e.part;
-            Numbers {
+            ErrorRecord {
                 kind: key::error_type(part),
                 actual: e.actual,
                 expected: e.expected,
@@ -64,18 +64,18 @@ fn part_of(kind: u32) -> Part
     Part::Application
 }
 
-pub(crate) fn slot_of(n: Numbers) -> Slot
-    ensures { λ r. ⌜ r ≡ records.slotIn n ⌝ }
+pub(crate) fn slot_of(r: ErrorRecord) -> Slot
+    ensures { λ s. ⌜ s ≡ records.slotIn r ⌝ }
 {
-    if n.kind == 0 {
+    if r.kind == 0 {
         return Slot::Empty;
     }
-    let part = part_of(n.kind);
+    let part = part_of(r.kind);
     Slot::Holding(Error {
         part,
-        actual: n.actual,
-        expected: n.expected,
-        offset: n.offset,
+        actual: r.actual,
+        expected: r.expected,
+        offset: r.offset,
     })
 }
 
@@ -122,23 +122,12 @@ pub(crate) fn configuration_of(r: ConfigurationRecord) -> Configuration
     Configuration { signature, layout }
 }
 
-pub(crate) fn key_numbers(r: KeyRecord) -> Numbers
-    ensures { λ n. ⌜ n ≡ records.keyNumbers r ⌝ }
-{
-    Numbers {
-        kind: r.error_type,
-        actual: r.error_actual,
-        expected: r.error_expected,
-        offset: r.error_offset,
-    }
-}
-
 pub(crate) fn key_of(r: KeyRecord) -> Key
     ensures { λ k. ⌜ k ≡ records.keyIn r ⌝ }
 {
     let layout = r.layout;
     let signature = signature_of(r.signature);
-    let slot = slot_of(key_numbers(r));
+    let slot = slot_of(r.error);
     Key {
         configured: r.configured == 1,
         memory_length: r.memory_length,
@@ -154,17 +143,14 @@ pub(crate) fn key_record(k: Key) -> KeyRecord
     let layout = k.layout;
     let signature = signature_record(k.signature);
     let slot = k.slot;
-    let n = numbers_of(slot);
+    let error = error_record(slot);
     KeyRecord {
         seal: KEY_SEAL,
         memory_length: k.memory_length,
         layout,
         signature,
         configured: flag(k.configured),
-        error_type: n.kind,
-        error_actual: n.actual,
-        error_expected: n.expected,
-        error_offset: n.offset,
+        error,
         spare: 0,
     }
 }
@@ -174,23 +160,45 @@ pub(crate) fn with_slot(r: KeyRecord, slot: Slot) -> KeyRecord
     requires { ⌜ records.keyRecord (records.keyIn r) ≡ r ⌝ }
     ensures { λ k. ⌜ k ≡ records.keyRecord (withSlot (records.keyIn r) slot) ⌝ }
 {
-    let n = numbers_of(slot);
+    let error = error_record(slot);
     let mut k = r;
-    k.error_type = n.kind;
-    k.error_actual = n.actual;
-    k.error_expected = n.expected;
-    k.error_offset = n.offset;
+    k.error = error;
     k
 }
 
-pub(crate) fn session_numbers(r: SessionRecord) -> Numbers
-    ensures { λ n. ⌜ n ≡ records.sessionNumbers r ⌝ }
+// What comes back in a key's place where there is none: it bears no seal.
+pub(crate) fn unsealed(r: KeyRecord) -> KeyRecord
+    ensures { λ k. ⌜ k ≡ border.unsealed r ⌝ }
 {
-    Numbers {
-        kind: r.error_type,
-        actual: r.error_actual,
-        expected: r.error_expected,
-        offset: r.error_offset,
+    let mut k = r;
+    k.seal = 0;
+    k
+}
+
+fn side_of(r: SideRecord) -> Side
+    ensures { λ s. ⌜ s ≡ records.sideIn r ⌝ }
+{
+    let guard = Running {
+        value: r.guard,
+        odd: r.odd == 1,
+    };
+    Side {
+        index: r.index,
+        at: r.at,
+        guard,
+    }
+}
+
+fn side_record(s: Side) -> SideRecord
+    ensures { λ r. ⌜ r ≡ records.sideRecord s ⌝ }
+{
+    let guard = s.guard;
+    SideRecord {
+        index: s.index,
+        at: s.at,
+        odd: flag(guard.odd),
+        guard: guard.value,
+        spare: 0,
     }
 }
 
@@ -200,25 +208,9 @@ pub(crate) fn session_of(r: SessionRecord) -> Session
     let key = key_of(r.key);
     let start = LayoutOffset::new(r.start);
     let held = r.held;
-    let slot = slot_of(session_numbers(r));
-    let in_guard = Running {
-        value: r.input_guard,
-        odd: r.input_odd == 1,
-    };
-    let out_guard = Running {
-        value: r.output_guard,
-        odd: r.output_odd == 1,
-    };
-    let input = Side {
-        index: r.input_index,
-        at: r.input_at,
-        guard: in_guard,
-    };
-    let output = Side {
-        index: r.output_index,
-        at: r.output_at,
-        guard: out_guard,
-    };
+    let slot = slot_of(r.error);
+    let input = side_of(r.input);
+    let output = side_of(r.output);
     let progress = Progress {
         input,
         output,
@@ -235,29 +227,18 @@ pub(crate) fn session_of(r: SessionRecord) -> Session
 
 // The record with another progress, which is all that a packet changes.
 pub(crate) fn with_progress(r: SessionRecord, progress: Progress) -> SessionRecord
-    requires { ⌜ (r .seal ≡ records.sessionSeal) × (records.keyRecord (records.keyIn (r .key)) ≡ r .key) × (r .spare ≡ 0) ⌝ }
+    requires { ⌜ (r .seal ≡ records.sessionSeal) × (records.keyRecord (records.keyIn (r .key)) ≡ r .key) ⌝ }
     ensures { λ s. ⌜ s ≡ records.sessionRecord (further (records.sessionIn r) progress) ⌝ }
 {
     let held = progress.held;
     let slot = progress.slot;
-    let n = numbers_of(slot);
-    let input = progress.input;
-    let output = progress.output;
-    let in_guard = input.guard;
-    let out_guard = output.guard;
+    let error = error_record(slot);
+    let input = side_record(progress.input);
+    let output = side_record(progress.output);
     let mut s = r;
-    s.input_index = input.index;
-    s.input_at = input.at;
-    s.output_index = output.index;
-    s.output_at = output.at;
-    s.input_guard = in_guard.value;
-    s.output_guard = out_guard.value;
-    s.input_odd = flag(in_guard.odd);
-    s.output_odd = flag(out_guard.odd);
-    s.error_type = n.kind;
-    s.error_actual = n.actual;
-    s.error_expected = n.expected;
-    s.error_offset = n.offset;
+    s.input = input;
+    s.output = output;
+    s.error = error;
     s.held = held;
     s
 }
@@ -266,24 +247,21 @@ pub(crate) fn with_progress(r: SessionRecord, progress: Progress) -> SessionReco
 pub(crate) fn no_session(key: KeyRecord) -> SessionRecord
     ensures { λ r. ⌜ r ≡ border.noSession key ⌝ }
 {
+    let side = SideRecord {
+        index: 0,
+        at: 0,
+        odd: 0,
+        guard: 0,
+        spare: 0,
+    };
     SessionRecord {
         seal: 0,
         key,
         start: 0,
         length: 0,
-        input_index: 0,
-        input_at: 0,
-        output_index: 0,
-        output_at: 0,
-        input_guard: 0,
-        output_guard: 0,
-        input_odd: 0,
-        output_odd: 0,
-        error_type: 0,
-        error_actual: 0,
-        error_expected: 0,
-        error_offset: 0,
-        spare: 0,
+        input: side,
+        output: side,
+        error: no_error(),
         held: [0; 8],
     }
 }

@@ -44,6 +44,15 @@ pub struct ConfigurationRecord {
     pub signature: SignatureRecord,
 }
 
+// An error slot as check answers it. Kind 0 is an empty one.
+#[repr(C)]
+pub struct ErrorRecord {
+    pub kind: u32,
+    pub actual: u32,
+    pub expected: u32,
+    pub offset: u32,
+}
+
 #[repr(C)]
 pub struct KeyRecord {
     pub seal: u64,
@@ -51,11 +60,18 @@ pub struct KeyRecord {
     pub layout: Layout,
     pub signature: SignatureRecord,
     pub configured: u32,
-    pub error_type: u32,
-    pub error_actual: u32,
-    pub error_expected: u32,
-    pub error_offset: u32,
+    pub error: ErrorRecord,
     pub spare: u32,
+}
+
+// Where a stream stands: its block under way, how far into its unit, and its running guard.
+#[repr(C)]
+pub struct SideRecord {
+    pub index: u64,
+    pub at: u64,
+    pub odd: u32,
+    pub guard: u16,
+    pub spare: u16,
 }
 
 #[repr(C)]
@@ -64,19 +80,9 @@ pub struct SessionRecord {
     pub key: KeyRecord,
     pub start: u64,
     pub length: u64,
-    pub input_index: u64,
-    pub input_at: u64,
-    pub output_index: u64,
-    pub output_at: u64,
-    pub input_guard: u16,
-    pub output_guard: u16,
-    pub input_odd: u32,
-    pub output_odd: u32,
-    pub error_type: u32,
-    pub error_actual: u32,
-    pub error_expected: u32,
-    pub error_offset: u32,
-    pub spare: u32,
+    pub input: SideRecord,
+    pub output: SideRecord,
+    pub error: ErrorRecord,
     pub held: [u8; 8],
 }
 

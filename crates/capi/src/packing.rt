@@ -15,6 +15,7 @@ use crate::converting::key_record;
 use crate::converting::no_session;
 use crate::converting::session_of;
 use crate::converting::session_record;
+use crate::converting::unsealed;
 use crate::converting::with_progress;
 use crate::sealing::goes_on;
 use crate::sealing::is_key;
@@ -42,6 +43,16 @@ fn session_finished(f: Finished) -> SessionRecord
     match outcome {
         Outcome::Done => no_session(key_record(f.key)),
         Outcome::Refused(_) => session_record(f.session),
+    }
+}
+
+fn key_finished(f: Finished) -> KeyRecord
+    ensures { λ r. ⌜ r ≡ border.keyFinished (f .outcome) f ⌝ }
+{
+    let outcome = f.outcome;
+    match outcome {
+        Outcome::Done => key_record(f.key),
+        Outcome::Refused(_) => unsealed(key_record(f.key)),
     }
 }
 
@@ -110,14 +121,13 @@ pub extern "C" fn garoalva_finish(session: SessionRecord) -> FinishedRecord
         let f = packets::finish(session_of(session));
         let outcome = f.outcome;
         return FinishedRecord {
-            key: key_record(f.key),
+            key: key_finished(f),
             session: session_finished(f),
             answer: wide(key::number(outcome)),
         };
     }
-    let key = session.key;
     FinishedRecord {
-        key,
+        key: unsealed(session.key),
         session,
         answer: NOT_A_SESSION,
     }
@@ -135,9 +145,8 @@ pub extern "C" fn garoalva_abandon(session: SessionRecord) -> AbandonedRecord
             answer: wide(key::number(outcome)),
         };
     }
-    let key = session.key;
     AbandonedRecord {
-        key,
+        key: unsealed(session.key),
         answer: NOT_A_SESSION,
     }
 }

@@ -3,14 +3,15 @@ ghost use mathlib.Core.Path.{_≡_};
 ghost use lib.ListN.{length};
 ghost use mathlib.Core.Bool.{true};
 ghost use Rattle.capi.specs.Records as records;
+use crate::ErrorRecord;
 use crate::KEY_SEAL;
 use crate::KeyRecord;
 use crate::SESSION_SEAL;
 use crate::SessionRecord;
+use crate::SideRecord;
 use crate::converting;
-use crate::converting::Numbers;
 
-fn alike(m: Numbers, n: Numbers) -> bool
+fn alike(m: ErrorRecord, n: ErrorRecord) -> bool
     ensures { λ r. ⌜ r ≡ records.alike m n ⌝ }
 {
     (m.kind == n.kind)
@@ -20,10 +21,10 @@ fn alike(m: Numbers, n: Numbers) -> bool
 }
 
 // Whether the numbers of an error slot are those that a slot has.
-fn proper(n: Numbers) -> bool
+fn proper(n: ErrorRecord) -> bool
     ensures { λ r. ⌜ r ≡ records.proper n ⌝ }
 {
-    alike(n, converting::numbers_of(converting::slot_of(n)))
+    alike(n, converting::error_record(converting::slot_of(n)))
 }
 
 fn is_flag(n: u32) -> bool
@@ -32,13 +33,22 @@ fn is_flag(n: u32) -> bool
     n == converting::flag(n == 1)
 }
 
+fn is_side(r: SideRecord) -> bool
+    ensures { λ b. ⌜ b ≡ records.isSide r ⌝ }
+{
+    is_flag(r.odd) & (r.spare == 0)
+}
+
 pub(crate) fn is_key(r: KeyRecord) -> bool
     ensures { λ b. ⌜ b ≡ records.isKey r ⌝ }
 {
     let whole = (r.seal == KEY_SEAL) & is_flag(r.configured) & (r.signature.spare == 0);
+    // A key never configured holds no error.
+    let configured_or_empty = (r.configured == 1) | (r.error.kind == 0);
     whole
         & (r.spare == 0)
-        & proper(converting::key_numbers(r))
+        & proper(r.error)
+        & configured_or_empty
         & key::usable(
             r.configured == 1,
             r.memory_length,
@@ -53,13 +63,8 @@ pub(crate) fn goes_on(r: SessionRecord) -> bool
     requires { ⌜ records.isKey (r .key) ≡ true ⌝ }
     ensures { λ b. ⌜ (b ≡ records.isSession r) × (length (r .held) ≡ 8) ⌝ }
 {
-    let held = r.held;
-    packets::eight(held);
-    let whole = (r.seal == SESSION_SEAL) & is_flag(r.input_odd) & is_flag(r.output_odd);
-    whole
-        & (r.spare == 0)
-        & proper(converting::session_numbers(r))
-        & packets::under_way(converting::session_of(r))
+    let whole = (r.seal == SESSION_SEAL) & is_side(r.input) & is_side(r.output);
+    whole & proper(r.error) & packets::under_way(converting::session_of(r))
 }
 
 pub(crate) fn is_session(r: SessionRecord) -> bool

@@ -17,7 +17,7 @@ number-requires c κs = search needs
 
 with-progress-requires : tie.Need-with-progress-requires
 with-progress-requires c κs =
-    rw (c .before .no-session .ensures, c .before .before .key-record .ensures) (refl, ap (λ (k : Key). keyRecord k) (key-round (c .before .before .before .before .before .args .s .key)), refl)
+    rw (c .before .no-session .ensures, c .before .before .key-record .ensures) (refl, ap (λ (k : Key). keyRecord k) (key-round (c .before .before .before .before .before .args .s .key)))
 
 returns : tie.Need-returns
 returns c =

@@ -5,13 +5,13 @@ use Rattle.capi.specs.declared.KeyRecord.{KeyRecord}
 use Rattle.capi.proofs.converting.with_slot.Statement.{statement}
 use Rattle.capi.proofs.converting.with_slot.Tie as tie
 
-numbers-of-requires : tie.Need-numbers-of-requires
-numbers-of-requires c κs = search needs
+error-record-requires : tie.Need-error-record-requires
+error-record-requires c κs = search needs
 
 returns : tie.Need-returns
 returns c =
     let h = c .before .pre in
-    rw (c .numbers-of .ensures, ap (λ (x : KeyRecord). x .seal) h, ap (λ (x : KeyRecord). x .signature) h, ap (λ (x : KeyRecord). x .configured) h, ap (λ (x : KeyRecord). x .spare) h)
+    rw (c .error-record .ensures, ap (λ (x : KeyRecord). x .seal) h, ap (λ (x : KeyRecord). x .signature) h, ap (λ (x : KeyRecord). x .configured) h, ap (λ (x : KeyRecord). x .spare) h)
 
 pub with-slot-spec : {M : Type 1} → statement M
-with-slot-spec = tie.close (tie.spec numbers-of-requires returns)
+with-slot-spec = tie.close (tie.spec error-record-requires returns)

@@ -27,9 +27,12 @@ returns : tie.Need-returns
 unfolding abandonAtBorder
 returns c = rw (c .wide .ensures, c .before .number .ensures, c .before .before .key-record .ensures, c .before .before .before .abandon .ensures, c .before .before .before .before .session-of .ensures, sym (c .before .before .before .before .before .before .is-session .ensures .0) ∙ c .before .before .before .before .before .if1 .taken)
 
+unsealed-requires : tie.Need-unsealed-requires
+unsealed-requires c κs = search needs
+
 returns-2 : tie.Need-returns-2
 unfolding abandonAtBorder
-returns-2 c = rw (sym (c .before .before .is-session .ensures .0) ∙ c .before .if1 .left)
+returns-2 c = rw (c .unsealed .ensures, sym (c .before .before .is-session .ensures .0) ∙ c .before .if1 .left)
 
 pub garoalva-abandon-spec : {M : Type 1} → statement M
 garoalva-abandon-spec =
@@ -42,4 +45,5 @@ garoalva-abandon-spec =
     number-requires
     wide-requires
     returns
+    unsealed-requires
     returns-2)

@@ -14,8 +14,8 @@ session-of-requires c κs = search needs
 finish-requires : tie.Need-finish-requires
 finish-requires c κs = rw (c .session-of .ensures) (session-told _ (sym (c .before .before .is-session .ensures .0) ∙ c .before .if1 .taken) (c .before .before .is-session .ensures .1))
 
-key-record-requires : tie.Need-key-record-requires
-key-record-requires c κs = search needs
+key-finished-requires : tie.Need-key-finished-requires
+key-finished-requires c κs = search needs
 
 session-finished-requires : tie.Need-session-finished-requires
 session-finished-requires c κs = search needs
@@ -28,11 +28,14 @@ wide-requires c κs = search needs
 
 returns : tie.Need-returns
 unfolding finishAtBorder
-returns c = rw (c .wide .ensures, c .before .number .ensures, c .before .before .session-finished .ensures, c .before .before .before .key-record .ensures, c .before .before .before .before .finish .ensures, c .before .before .before .before .before .session-of .ensures, sym (c .before .before .before .before .before .before .before .is-session .ensures .0) ∙ c .before .before .before .before .before .before .if1 .taken)
+returns c = rw (c .wide .ensures, c .before .number .ensures, c .before .before .session-finished .ensures, c .before .before .before .key-finished .ensures, c .before .before .before .before .finish .ensures, c .before .before .before .before .before .session-of .ensures, sym (c .before .before .before .before .before .before .before .is-session .ensures .0) ∙ c .before .before .before .before .before .before .if1 .taken)
+
+unsealed-requires : tie.Need-unsealed-requires
+unsealed-requires c κs = search needs
 
 returns-2 : tie.Need-returns-2
 unfolding finishAtBorder
-returns-2 c = rw (sym (c .before .before .is-session .ensures .0) ∙ c .before .if1 .left)
+returns-2 c = rw (c .unsealed .ensures, sym (c .before .before .is-session .ensures .0) ∙ c .before .if1 .left)
 
 pub garoalva-finish-spec : {M : Type 1} → statement M
 garoalva-finish-spec =
@@ -41,9 +44,10 @@ garoalva-finish-spec =
     is-session-requires
     session-of-requires
     finish-requires
-    key-record-requires
+    key-finished-requires
     session-finished-requires
     number-requires
     wide-requires
     returns
+    unsealed-requires
     returns-2)

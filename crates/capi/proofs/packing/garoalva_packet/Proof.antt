@@ -26,7 +26,7 @@ packet-requires c κs = rw (c .before .session-of .ensures) (session-told _ (pas
 with-progress-requires : tie.Need-with-progress-requires
 with-progress-requires c κs =
     let e = session-back _ (passes (c .before .before .before .before .before .before .before)) in
-    (sym (ap (λ (r : SessionRecord). r .seal) e), ap (λ (r : SessionRecord). r .key) e, sym (ap (λ (r : SessionRecord). r .spare) e))
+    (sym (ap (λ (r : SessionRecord). r .seal) e), ap (λ (r : SessionRecord). r .key) e)
 
 number-requires : tie.Need-number-requires
 number-requires c κs = search needs

@@ -7,9 +7,6 @@ use Rattle.capi.proofs.sealing.is_key.Tie as tie
 is-flag-requires : tie.Need-is-flag-requires
 is-flag-requires c κs = search needs
 
-key-numbers-requires : tie.Need-key-numbers-requires
-key-numbers-requires c κs = search needs
-
 proper-requires : tie.Need-proper-requires
 proper-requires c κs = search needs
 
@@ -21,14 +18,13 @@ usable-requires c κs = search needs
 
 returns : tie.Need-returns
 unfolding isKey usable
-returns c = rw (c .usable .ensures, c .before .signature-of .ensures, c .before .before .before .proper .ensures, c .before .before .before .before .key-numbers .ensures, c .before .before .before .before .before .before .before .is-flag .ensures)
+returns c = rw (c .usable .ensures, c .before .signature-of .ensures, c .before .before .before .proper .ensures, c .before .before .before .before .before .before .before .before .is-flag .ensures)
 
 pub is-key-spec : {M : Type 1} → statement M
 is-key-spec =
     tie.close
     (tie.spec
     is-flag-requires
-    key-numbers-requires
     proper-requires
     signature-of-requires
     usable-requires

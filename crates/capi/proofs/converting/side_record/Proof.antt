@@ -1,0 +1,15 @@
+use borrow.Author.Needs.{needs}
+use Rattle.capi.proofs.converting.side_record.Statement.{statement}
+use Rattle.capi.proofs.converting.side_record.Tie as tie
+use Rattle.capi.proofs.converting.side_record.Reads as reads
+use Rattle.capi.proofs.converting.side_record.Lts as lts
+use Rattle.capi.proofs.converting.flag.Reads as flag-reads
+
+flag-requires : tie.Need-flag-requires
+flag-requires c κs = search needs
+
+returns : tie.Need-returns
+returns c = rw (c .flag .ensures)
+
+pub side-record-spec : {M : Type 1} → statement M
+side-record-spec = tie.close (tie.spec flag-requires returns)

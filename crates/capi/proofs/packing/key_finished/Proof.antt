@@ -1,0 +1,41 @@
+use mathlib.Core.Path.{_∙_}
+use borrow.Author.Needs.{needs}
+use Rattle.capi.proofs.packing.key_finished.Statement.{statement}
+use Rattle.capi.proofs.packing.key_finished.Tie as tie
+use Rattle.capi.proofs.packing.key_finished.Reads as reads
+use Rattle.capi.proofs.packing.key_finished.Lts as lts
+use Rattle.capi.proofs.converting.key_record.Reads as key-record-reads
+use Rattle.capi.proofs.converting.unsealed.Reads as unsealed-reads
+
+enum-told : tie.Need-enum-told
+enum-told c = search needs
+
+key-record-requires : tie.Need-key-record-requires
+key-record-requires c κs = search needs
+
+enum-told-2 : tie.Need-enum-told-2
+enum-told-2 c = search needs
+
+key-record-requires-2 : tie.Need-key-record-requires-2
+key-record-requires-2 c κs = search needs
+
+unsealed-requires : tie.Need-unsealed-requires
+unsealed-requires c κs = search needs
+
+returns : tie.Need-returns
+returns c = c .key-record .ensures ∙ rw (c .before .enum-told .given .1)
+
+returns-2 : tie.Need-returns-2
+returns-2 c = c .unsealed .ensures ∙ rw (c .before .key-record2 .ensures, c .before .before .enum-told2 .given .1)
+
+pub key-finished-spec : {M : Type 1} → statement M
+key-finished-spec =
+    tie.close
+    (tie.spec
+    enum-told
+    key-record-requires
+    enum-told-2
+    key-record-requires-2
+    unsealed-requires
+    returns
+    returns-2)
