@@ -3,11 +3,18 @@
 #include <stdbool.h>
 #include <string.h>
 
-garoalva_packed handed_over(garoalva_session session, uint8_t *memory, size_t memory_length, const uint8_t *bytes,
-                            size_t length) {
-    (void)memory;
-    (void)bytes;
-    return (garoalva_packed){.session = session, .answer = GAROALVA_DONE, .taken = length, .written = memory_length};
+/* Both sides of the session go so many bytes on. Where it lies: by value it would be copied once more. */
+static void count(garoalva_session *session, size_t length) {
+    session->input.index += length;
+    session->output.index = session->input.index;
+}
+
+garoalva_packed packet_untested(garoalva_session session, uint8_t *memory, size_t memory_length, const uint8_t *bytes,
+                                size_t length) {
+    (void)memory_length;
+    memcpy(memory + session.input.index, bytes, length);
+    count(&session, length);
+    return (garoalva_packed){.session = session, .taken = session.input.index, .written = session.output.index};
 }
 
 static uint64_t begins(const garoalva_entry *e, uint64_t repeat) {
@@ -30,19 +37,21 @@ static uint64_t total_of(const garoalva_layout *l, uint64_t memory_length) {
     return sum <= memory_length ? sum : 0;
 }
 
-static bool is_slot(uint32_t type, uint32_t actual, uint32_t expected, uint32_t offset, uint32_t spare) {
-    return spare == 0 && (type == 0 ? (actual | expected | offset) == 0 : type <= GAROALVA_ERROR_APPLICATION);
+static bool is_error(const garoalva_error *e) {
+    return e->type == 0 ? (e->actual | e->expected | e->offset) == 0 : e->type <= GAROALVA_ERROR_APPLICATION;
 }
+
+/* A side of an unsigned session, in which each byte is a block. */
+static bool is_side(const garoalva_side *s) { return s->at == 0 && s->odd < 2 && s->spare == 0; }
 
 static bool passes(const garoalva_session *s, uint64_t total) {
     const garoalva_key *k = &s->key;
     const garoalva_signature *g = &k->signature;
     return s->seal == 0x4741524F53455301 && k->seal == 0x4741524F4B455901 && k->configured == 1 && total > 0 &&
-           g->memory.kind == 0 && g->wire.kind == 0 && g->attribute_flags == 0 && g->spare == 0 &&
-           is_slot(k->error_type, k->error_actual, k->error_expected, k->error_offset, k->spare) &&
-           is_slot(s->error_type, s->error_actual, s->error_expected, s->error_offset, s->spare) && s->input_odd < 2 &&
-           s->output_odd < 2 && s->length <= total && s->start <= total - s->length && s->input_index <= s->length &&
-           s->output_index == s->input_index && s->input_at == 0 && s->output_at == 0;
+           g->memory.kind == 0 && g->wire.kind == 0 && g->attribute_flags == 0 && g->spare == 0 && k->spare == 0 &&
+           is_error(&k->error) && is_error(&s->error) && is_side(&s->input) && is_side(&s->output) &&
+           s->length <= total && s->start <= total - s->length && s->input.index <= s->length &&
+           s->output.index == s->input.index;
 }
 
 /* Stores the bytes along the layout from this place on. */
@@ -75,10 +84,9 @@ garoalva_packed packet_by_hand(garoalva_session session, uint8_t *memory, size_t
         return (garoalva_packed){.session = session, .answer = GAROALVA_NOT_A_SESSION};
     if (memory_length != session.key.memory_length)
         return (garoalva_packed){.session = session, .answer = GAROALVA_MEMORY_LENGTH};
-    if (length > session.length - session.input_index)
+    if (length > session.length - session.input.index)
         return (garoalva_packed){.session = session, .answer = GAROALVA_LONG_PACKET};
-    place(&session.key.layout, total, session.start + session.input_index, memory, bytes, length);
-    session.input_index += length;
-    session.output_index = session.input_index;
-    return (garoalva_packed){.session = session, .taken = session.input_index, .written = session.input_index};
+    place(&session.key.layout, total, session.start + session.input.index, memory, bytes, length);
+    count(&session, length);
+    return (garoalva_packed){.session = session, .taken = session.input.index, .written = session.output.index};
 }

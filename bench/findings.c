@@ -61,6 +61,8 @@ void print_verdicts(const struct findings *f) {
                    BLOCK_SIZES, 1);
     print_at_most("Packets of 1,500 bytes within 1.3 of the one-call time: ", f->packets_to_call, 1.3);
     print_at_most("No growth with the number of packets before: ", f->later_packets, flat);
+    print_reported("Plain packets of 1,500 bytes in C, by value, nothing tested, to the one-call time",
+                   &f->untested_to_call);
     print_reported("Plain packets of 1,500 bytes by hand in C, to the one-call time", &f->by_hand_to_call);
     print_reported("CRC next to the table loop", &f->crc_to_loop);
     print_reported("CRC next to ISA-L's crc16_t10dif_copy", &f->crc_to_isal_copy);

@@ -24,7 +24,8 @@ struct findings {
     struct finding checksum_to_loop[BLOCK_SIZES];
     struct finding packets_to_call[SIGNINGS]; /* time */
     struct finding later_packets[SIGNINGS];   /* cost per packet, dearest tenth of a session to its first */
-    struct finding by_hand_to_call;           /* time of plain packets by hand, to one call */
+    struct finding untested_to_call;          /* time of plain packets in C that test nothing, to one call */
+    struct finding by_hand_to_call;           /* the same by hand */
     struct finding crc_to_loop;
     struct finding crc_to_isal_copy;
 };

@@ -150,24 +150,26 @@ void run_memcpy(struct scene *s, enum direction direction) {
     }
 }
 
-void run_handed(struct scene *s, enum direction direction) {
-    (void)direction;
+typedef garoalva_packed (*packet_call)(garoalva_session session, uint8_t *memory, size_t memory_length,
+                                       const uint8_t *bytes, size_t length);
+
+static void run_calls(struct scene *s, packet_call call) {
     garoalva_packed packed = {.session = opened_session(s, 0)};
-    for (size_t i = 0; i < packet_count(s); i++) {
-        packed = handed_over(packed.session, s->memory, s->memory_length, s->wire, 0);
+    for (size_t from = 0; from < s->wire_length; from += PACKET) {
+        size_t length = s->wire_length - from < PACKET ? s->wire_length - from : PACKET;
+        packed = call(packed.session, s->memory, s->memory_length, s->wire + from, length);
         if (packed.answer != GAROALVA_DONE)
-            fail("nothing was refused", s);
+            fail("a packet in C was refused", s);
     }
+    finish_session(s, packed.session);
+}
+
+void run_untested(struct scene *s, enum direction direction) {
+    (void)direction;
+    run_calls(s, packet_untested);
 }
 
 void run_by_hand(struct scene *s, enum direction direction) {
     (void)direction;
-    garoalva_packed packed = {.session = opened_session(s, 0)};
-    for (size_t from = 0; from < s->wire_length; from += PACKET) {
-        size_t length = s->wire_length - from < PACKET ? s->wire_length - from : PACKET;
-        packed = packet_by_hand(packed.session, s->memory, s->memory_length, s->wire + from, length);
-        if (packed.answer != GAROALVA_DONE)
-            fail("a packet by hand was refused", s);
-    }
-    finish_session(s, packed.session);
+    run_calls(s, packet_by_hand);
 }

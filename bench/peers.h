@@ -23,9 +23,8 @@ void run_loop(struct scene *s, enum direction direction);
 /* ISA-L's crc16_t10dif, then memcpy; and its crc16_t10dif_copy. Not for checksums. */
 void run_isal(struct scene *s, enum direction direction);
 void run_isal_copy(struct scene *s, enum direction direction);
-/* Calls that only hand a session over and back by value, as many as there are packets: what C's calling convention
- * costs whatever the callee does. */
-void run_handed(struct scene *s, enum direction direction);
+/* Packets by calls that test nothing, for unsigned scenes of one piece: what no call by value can do without. */
+void run_untested(struct scene *s, enum direction direction);
 /* Packets by hand, for unsigned scenes. */
 void run_by_hand(struct scene *s, enum direction direction);
 /* The memory stream's bytes, piece by piece: no guards, no fields. What is signed stays as it is, and the bytes go to

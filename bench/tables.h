@@ -9,7 +9,7 @@ enum { KIB = 1024, MIB = 1024 * 1024 };
 
 /* Every signing, direction, block size and layout, next to the peers. */
 void print_transfers(struct effort effort, struct findings *f);
-/* What a packet costs whatever its length, next to a call that does nothing and to one written by hand. */
+/* What a packet costs whatever its length, next to a call that tests nothing and to one written by hand. */
 void print_calls(struct effort effort, struct findings *f);
 /* Unsigned transfers over pieces of 4,096 bytes. */
 void print_plain_pieces(struct effort effort, struct findings *f);

@@ -102,26 +102,40 @@ void print_transfers(struct effort effort, struct findings *f) {
         print_block_size(block_sizes[i], effort, f);
 }
 
+static void print_cell(double value, int digits) {
+    if (value > 0)
+        printf(" %8.*f |", digits, value);
+    else
+        printf(" %8s |", "-");
+}
+
 void print_calls(struct effort effort, struct findings *f) {
     static const size_t pieces[] = {1, 16, MANY_PIECES};
+    static const enum contender callers[] = {UNTESTED, BY_HAND, EMPTY, PACKETS, OURS};
     printf(
         "\n## What a packet costs whatever its length, in ns, nothing signed\n\n"
-        "A call that only hands the session over and back, in C; ours without a byte; ours with %d bytes; the same\n"
-        "written by hand in C, for unsigned sessions alone and without a proof; and the share of so many bytes in one\n"
-        "receive. By hand and handed over: as the compiler above builds them. One call: the time by hand to that of\n"
-        "one receive.\n\n"
-        "| pieces | handed over |   empty | %d bytes |  by hand | in one receive | one call |\n"
-        "|---:|---:|---:|---:|---:|---:|---:|\n",
+        "Packets of %d bytes by two calls in C that take and give what ours does: one tests nothing and knows no\n"
+        "layout but one piece, one is the packet call by hand, for unsigned sessions alone and without a proof; ours\n"
+        "without a byte; ours with %d bytes; and the share of so many bytes in one receive. Then the times of the two\n"
+        "in C to that share. They are as the compiler above builds them.\n\n"
+        "| pieces | untested |  by hand |    empty |     ours |    share | untested |  by hand |\n"
+        "|---:|---:|---:|---:|---:|---:|---:|---:|\n",
         PACKET, PACKET);
     for (size_t i = 0; i < sizeof pieces / sizeof *pieces; i++) {
         struct scene s = scene_made((struct shape){PLAIN, 4096, 256, pieces[i]});
+        verify(&s, RECEIVE);
         struct times t = measured(&s, RECEIVE, effort);
-        double count = (double)packet_count(&s), by_hand = t.seconds[BY_HAND] / t.seconds[OURS];
-        printf("| %6zu | %11.0f | %7.0f | %10.0f | %8.0f | %14.0f | %8.2f |\n", pieces[i],
-               t.seconds[HANDED] / count * 1e9, t.seconds[EMPTY] / count * 1e9, t.seconds[PACKETS] / count * 1e9,
-               t.seconds[BY_HAND] / count * 1e9, t.seconds[OURS] / count * 1e9, by_hand);
+        double untested = t.seconds[UNTESTED] / t.seconds[OURS], by_hand = t.seconds[BY_HAND] / t.seconds[OURS];
+        printf("| %6zu |", pieces[i]);
+        for (size_t j = 0; j < sizeof callers / sizeof *callers; j++)
+            print_cell(t.seconds[callers[j]] / (double)packet_count(&s) * 1e9, 0);
+        print_cell(untested, 2);
+        print_cell(by_hand, 2);
+        puts("");
         char where[32];
         snprintf(where, sizeof where, "pieces: %zu", pieces[i]);
+        if (untested > 0)
+            keep_highest(&f->untested_to_call, untested, where);
         keep_highest(&f->by_hand_to_call, by_hand, where);
         scene_freed(&s);
     }
