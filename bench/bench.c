@@ -33,9 +33,11 @@ int main(int count, char **arguments) {
     struct effort quick = {1, 0.002, MOST_PLACEMENTS / 2, 1, true};
     struct effort effort = quick_asked(count, arguments) ? quick : thorough;
     struct findings f = {0};
+    struct receives r = {0};
     make_crc_table();
     print_conditions(effort);
-    print_transfers(effort, &f);
+    print_transfers(effort, &f, &r);
+    print_guards(&r, &f);
     print_calls(effort, &f);
     print_plain_pieces(effort, &f);
     print_lengths(effort, &f);

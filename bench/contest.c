@@ -7,8 +7,10 @@
 
 typedef void (*run)(struct scene *s, enum direction direction);
 
-static const run runs[CONTENDERS] = {run_ours, run_packets, run_empty,     run_untested, run_by_hand,
-                                     run_loop, run_isal,    run_isal_copy, run_memcpy};
+static const run runs[CONTENDERS] = {
+    [OURS] = run_ours,       [PACKETS] = run_packets,       [EMPTY] = run_empty,           [UNTESTED] = run_untested,
+    [BY_HAND] = run_by_hand, [LOOP_GUARD] = run_loop_guard, [ISAL_GUARD] = run_isal_guard, [LOOP] = run_loop,
+    [ISAL] = run_isal,       [ISAL_COPY] = run_isal_copy,   [MEMCPY] = run_memcpy};
 
 enum { PAGE = 4096 };
 
@@ -25,17 +27,27 @@ double processor_time(void) {
 
 static bool takes_part(enum contender c, const struct scene *s, enum direction direction) {
     enum signing signing = s->shape.signing;
-    if (c == PACKETS)
+    bool crc = signing != PLAIN && signing != CHECKSUM, contiguous = s->shape.pieces == 1;
+    switch (c) {
+    case PACKETS:
         return direction == RECEIVE;
-    if (c == EMPTY || c == BY_HAND)
+    case EMPTY:
+    case BY_HAND:
         return direction == RECEIVE && signing == PLAIN;
-    if (c == UNTESTED)
-        return direction == RECEIVE && signing == PLAIN && s->shape.pieces == 1;
-    if (c == LOOP)
+    case UNTESTED:
+        return direction == RECEIVE && signing == PLAIN && contiguous;
+    case LOOP_GUARD:
+        return direction == RECEIVE && signing != PLAIN && contiguous;
+    case ISAL_GUARD:
+        return !ISAL_MISSING && direction == RECEIVE && crc && contiguous;
+    case LOOP:
         return signing != PLAIN;
-    if (c == ISAL || c == ISAL_COPY)
-        return !ISAL_MISSING && signing != PLAIN && signing != CHECKSUM;
-    return true;
+    case ISAL:
+    case ISAL_COPY:
+        return !ISAL_MISSING && crc;
+    default:
+        return true;
+    }
 }
 
 static bool checks(const struct scene *s, enum direction direction) {
@@ -49,6 +61,8 @@ static bool found_bad(enum contender c, struct scene *s, enum direction directio
     bool ours = c == OURS || c == PACKETS;
     return ours ? found_error(s) : s->bad_blocks != 0;
 }
+
+static bool moves_bytes(enum contender c) { return c != LOOP_GUARD && c != ISAL_GUARD; }
 
 static void verify_bytes(enum contender c, struct scene *s, enum direction direction, const uint8_t *right) {
     uint8_t *target = direction == SEND ? s->wire : s->memory;
@@ -80,7 +94,8 @@ void verify(struct scene *s, enum direction direction) {
     for (enum contender c = OURS; c < MEMCPY; c++) {
         if (!takes_part(c, s, direction) || c == EMPTY)
             continue;
-        verify_bytes(c, s, direction, right);
+        if (moves_bytes(c))
+            verify_bytes(c, s, direction, right);
         if (checks(s, direction))
             verify_damage(c, s, direction);
     }

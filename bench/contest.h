@@ -4,7 +4,20 @@
 
 #include "scene.h"
 
-enum contender { OURS, PACKETS, EMPTY, UNTESTED, BY_HAND, LOOP, ISAL, ISAL_COPY, MEMCPY, CONTENDERS };
+enum contender {
+    OURS,
+    PACKETS,
+    EMPTY,
+    UNTESTED,
+    BY_HAND,
+    LOOP_GUARD,
+    ISAL_GUARD,
+    LOOP,
+    ISAL,
+    ISAL_COPY,
+    MEMCPY,
+    CONTENDERS
+};
 
 /* Seconds of a run; 0 for who doesn't take part. */
 struct times {

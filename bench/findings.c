@@ -50,20 +50,24 @@ static void print_reported(const char *what, const struct finding *f) {
 
 void print_verdicts(const struct findings *f) {
     printf("\n## What it must show\n\n"
-           "Each line has the worst figure measured. Flat: within %.2f.\n\n"
+           "Each line has the worst figure measured, of sends, receives and packets or of what it names. Flat: within "
+           "%.2f.\n\n"
            "| Claim | Measured | Verdict |\n|---|---|---|\n",
            flat);
     print_at_most("Cost per byte flat from 64 KiB to 16 MiB, over the same memory: ", f->call_growth, flat);
     print_at_most("Cost per byte flat from 64 KiB to 16 MiB, in buffers of their own: ", f->length_growth, flat);
     print_at_least("Unsigned transfers at 0.5 of memcpy or better at pieces of 4,096 bytes, so many of them: ",
                    f->plain_to_memcpy, plain_counts, PLAIN_COUNTS, 0.5);
-    print_at_least("Checksum guard faster than a byte-wise C loop, blocks of ", f->checksum_to_loop, block_sizes,
-                   BLOCK_SIZES, 1);
+    print_at_least("Checksum guard by itself faster than a byte-wise C loop, blocks of ", f->checksum_guard_to_loop,
+                   block_sizes, BLOCK_SIZES, 1);
+    print_at_least("Send and receive with checksums faster than that loop with memcpy, blocks of ", f->checksum_to_loop,
+                   block_sizes, BLOCK_SIZES, 1);
     print_at_most("Packets of 1,500 bytes within 1.3 of the one-call time: ", f->packets_to_call, 1.3);
     print_at_most("No growth with the number of packets before: ", f->later_packets, flat);
     print_reported("Plain packets of 1,500 bytes in C, by value, nothing tested, to the one-call time",
                    &f->untested_to_call);
     print_reported("Plain packets of 1,500 bytes by hand in C, to the one-call time", &f->by_hand_to_call);
-    print_reported("CRC next to the table loop", &f->crc_to_loop);
-    print_reported("CRC next to ISA-L's crc16_t10dif_copy", &f->crc_to_isal_copy);
+    print_reported("CRC guard by itself, next to the table loop", &f->crc_guard_to_loop);
+    print_reported("Send and receive with CRC, next to the table loop with memcpy", &f->crc_to_loop);
+    print_reported("Send and receive with CRC, next to ISA-L's crc16_t10dif_copy", &f->crc_to_isal_copy);
 }

@@ -21,12 +21,14 @@ struct findings {
     struct finding length_growth[SIGNINGS]; /* cost per byte, dearest length to the shortest */
     struct finding call_growth[SIGNINGS];   /* the same over the same memory */
     struct finding plain_to_memcpy[PLAIN_COUNTS];
-    struct finding checksum_to_loop[BLOCK_SIZES];
-    struct finding packets_to_call[SIGNINGS]; /* time */
-    struct finding later_packets[SIGNINGS];   /* cost per packet, dearest tenth of a session to its first */
-    struct finding untested_to_call;          /* time of plain packets in C that test nothing, to one call */
-    struct finding by_hand_to_call;           /* the same by hand */
-    struct finding crc_to_loop;
+    struct finding checksum_to_loop[BLOCK_SIZES];       /* guard and copy */
+    struct finding checksum_guard_to_loop[BLOCK_SIZES]; /* the guard by itself */
+    struct finding packets_to_call[SIGNINGS];           /* time */
+    struct finding later_packets[SIGNINGS];             /* cost per packet, dearest tenth of a session to its first */
+    struct finding untested_to_call;                    /* time of plain packets in C that test nothing, to one call */
+    struct finding by_hand_to_call;                     /* the same by hand */
+    struct finding crc_to_loop;                         /* guard and copy */
+    struct finding crc_guard_to_loop;
     struct finding crc_to_isal_copy;
 };
 

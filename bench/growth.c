@@ -192,16 +192,18 @@ static void time_tenths(struct scene *s, size_t tenth, double best[TENTHS]) {
     finish_session(s, fed_packets(s, session, TENTHS * tenth, s->wire_length));
 }
 
-static void print_tenths(enum signing signing, struct effort effort, struct findings *found) {
-    struct scene s = scene_made((struct shape){signing, BLOCK, most_blocks(signing), 1});
+/* In many pieces with a block less in each, which leaves room for the gaps between them. */
+static void print_tenths(enum signing signing, size_t pieces, struct effort effort, struct findings *found) {
+    size_t blocks = most_blocks(signing) - (pieces == 1 ? 0 : pieces);
+    struct scene s = scene_made((struct shape){signing, BLOCK, blocks, pieces});
     size_t packets = s.wire_length / PACKET / TENTHS;
     double best[TENTHS] = {0}, start = processor_time();
     for (int round = 0; another_round(round, start, effort, TENTHS); round++)
         time_tenths(&s, packets * PACKET, best);
-    printf("| %-20s |", signing_names[signing]);
+    printf("| %-20s | %6zu |", signing_names[signing], pieces);
     for (size_t i = 0; i < TENTHS; i++) {
-        char where[32];
-        snprintf(where, sizeof where, "tenth %zu to tenth 1", i + 1);
+        char where[48];
+        snprintf(where, sizeof where, "tenth %zu to tenth 1, pieces: %zu", i + 1, pieces);
         keep_highest(&found->later_packets[signing], best[i] / best[0], where);
         printf(" %6.0f |", best[i] * 1e9 / (double)packets);
     }
@@ -211,14 +213,15 @@ static void print_tenths(enum signing signing, struct effort effort, struct find
 
 void print_later_packets(struct effort effort, struct findings *found) {
     printf("\n## Packets of %d bytes in one session of 16 MiB, in ns per packet, by tenths of the session\n\n"
-           "| signed               |",
+           "| signed               | pieces |",
            PACKET);
     for (int i = 1; i <= TENTHS; i++)
         printf(" %5d. |", i);
-    printf("\n|---|");
+    printf("\n|---|---:|");
     for (int i = 1; i <= TENTHS; i++)
         printf("---:|");
     puts("");
     for (size_t i = 0; i < signings_measured(effort); i++)
-        print_tenths(signings[i], effort, found);
+        for (size_t pieces = 1; pieces <= 64; pieces *= 64)
+            print_tenths(signings[i], pieces, effort, found);
 }

@@ -6,6 +6,7 @@
 #include <isa-l/crc.h>
 #endif
 
+typedef uint16_t (*guard_of)(uint16_t seed, const uint8_t *data, size_t length);
 /* Copies a block and gives its guard. */
 typedef uint16_t (*guarded_copy)(uint16_t seed, uint8_t *to, const uint8_t *from, size_t length);
 
@@ -104,6 +105,18 @@ static void move_blocks(struct scene *s, enum direction direction, guarded_copy 
     }
 }
 
+static void check_guards(struct scene *s, guard_of guard) {
+    for (size_t i = 0; i < s->shape.blocks; i++) {
+        const uint8_t *block = block_on_wire(s, i), *field = block + s->shape.block;
+        s->bad_blocks += guard(scene_seed(s), block, s->shape.block) != (field[0] << 8 | field[1]);
+    }
+}
+
+void run_loop_guard(struct scene *s, enum direction direction) {
+    (void)direction;
+    check_guards(s, s->shape.signing == CHECKSUM ? byte_checksum : table_crc);
+}
+
 void run_loop(struct scene *s, enum direction direction) {
     switch (s->shape.signing) {
     case PLAIN:
@@ -123,6 +136,13 @@ static uint16_t copy_with_isal(uint16_t seed, uint8_t *to, const uint8_t *from, 
     return crc16_t10dif(seed, from, length);
 }
 
+static uint16_t isal_crc(uint16_t seed, const uint8_t *data, size_t length) { return crc16_t10dif(seed, data, length); }
+
+void run_isal_guard(struct scene *s, enum direction direction) {
+    (void)direction;
+    check_guards(s, isal_crc);
+}
+
 static uint16_t copy_by_isal(uint16_t seed, uint8_t *to, const uint8_t *from, size_t length) {
     return crc16_t10dif_copy(seed, to, (uint8_t *)from, length);
 }
@@ -137,6 +157,8 @@ void run_isal(struct scene *s, enum direction direction) {
 }
 
 void run_isal_copy(struct scene *s, enum direction direction) { run_isal(s, direction); }
+
+void run_isal_guard(struct scene *s, enum direction direction) { run_isal(s, direction); }
 #endif
 
 void run_memcpy(struct scene *s, enum direction direction) {

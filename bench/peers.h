@@ -18,6 +18,9 @@ uint16_t table_crc(uint16_t seed, const uint8_t *data, size_t length);
 void put_field(uint8_t *field, uint16_t guard, size_t index);
 void put_reference(uint8_t *field, size_t index);
 
+/* The guards of the wire's blocks, checked, and nothing else: the loop's of the next, and ISA-L's. */
+void run_loop_guard(struct scene *s, enum direction direction);
+void run_isal_guard(struct scene *s, enum direction direction);
 /* A guard loop in plain C, then memcpy: a table CRC, or the checksum byte by byte. */
 void run_loop(struct scene *s, enum direction direction);
 /* ISA-L's crc16_t10dif, then memcpy; and its crc16_t10dif_copy. Not for checksums. */

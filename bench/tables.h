@@ -7,8 +7,16 @@
 
 enum { KIB = 1024, MIB = 1024 * 1024 };
 
+/* The times of contiguous receives. */
+struct receives {
+    size_t data_length[BLOCK_SIZES];
+    struct times times[BLOCK_SIZES][SIGNINGS];
+};
+
 /* Every signing, direction, block size and layout, next to the peers. */
-void print_transfers(struct effort effort, struct findings *f);
+void print_transfers(struct effort effort, struct findings *f, struct receives *r);
+/* The guards by themselves, from these times. */
+void print_guards(const struct receives *r, struct findings *f);
 /* What a packet costs whatever its length, next to a call that tests nothing and to one written by hand. */
 void print_calls(struct effort effort, struct findings *f);
 /* Unsigned transfers over pieces of 4,096 bytes. */

@@ -8,13 +8,11 @@ enum { MANY_PIECES = 64 };
 
 static const char *const direction_names[] = {"send", "receive"};
 
-static double megabytes_per_second(const struct scene *s, double seconds) {
-    return (double)s->data_length / seconds * 1e-6;
-}
+static double megabytes_per_second(size_t data_length, double seconds) { return (double)data_length / seconds * 1e-6; }
 
-static void print_speed(const struct scene *s, double seconds) {
+static void print_speed(size_t data_length, double seconds) {
     if (seconds > 0)
-        printf(" %8.0f |", megabytes_per_second(s, seconds));
+        printf(" %8.0f |", megabytes_per_second(data_length, seconds));
     else
         printf(" %8s |", "-");
 }
@@ -28,9 +26,9 @@ static void print_ratio(double peer, double ours) {
 
 static void print_row(const struct scene *s, const char *name, struct times t, enum contender us) {
     printf("| %-7s | %-20s | %6zu |", name, signing_names[s->shape.signing], s->shape.pieces);
-    print_speed(s, t.seconds[us]);
+    print_speed(s->data_length, t.seconds[us]);
     for (enum contender c = LOOP; c < CONTENDERS; c++)
-        print_speed(s, t.seconds[c]);
+        print_speed(s->data_length, t.seconds[c]);
     for (enum contender c = LOOP; c < CONTENDERS; c++)
         print_ratio(t.seconds[c], t.seconds[us]);
     if (us == PACKETS)
@@ -42,7 +40,7 @@ static void print_row(const struct scene *s, const char *name, struct times t, e
 static const char *place(const struct scene *s, const char *name, double seconds) {
     static char text[80];
     snprintf(text, sizeof text, "%s, blocks of %zu, pieces: %zu, %.0f MB/s", name, s->shape.block, s->shape.pieces,
-             megabytes_per_second(s, seconds));
+             megabytes_per_second(s->data_length, seconds));
     return text;
 }
 
@@ -50,7 +48,7 @@ static void keep_ratios(const struct scene *s, enum direction direction, struct 
     const double ours = t.seconds[OURS], packets = t.seconds[PACKETS];
     const char *where = place(s, direction_names[direction], ours);
     enum signing signing = s->shape.signing;
-    bool crc = signing == CRC_ZERO || signing == CRC_ONES;
+    bool crc = signing != PLAIN && signing != CHECKSUM;
     for (size_t i = 0; i < BLOCK_SIZES; i++) {
         if (signing == CHECKSUM && s->shape.block == block_sizes[i])
             keep_lowest(&f->checksum_to_loop[i], t.seconds[LOOP] / ours, where);
@@ -63,21 +61,27 @@ static void keep_ratios(const struct scene *s, enum direction direction, struct 
         keep_highest(&f->packets_to_call[signing], packets / ours, place(s, "packets", packets));
 }
 
-static void print_scene(struct shape shape, struct effort effort, struct findings *f) {
+/* Gives the times of its receive. */
+static struct times print_scene(struct shape shape, struct effort effort, struct findings *f) {
     struct scene s = scene_made(shape);
+    struct times received = {{0}};
     for (enum direction direction = SEND; direction <= RECEIVE; direction++) {
         verify(&s, direction);
         struct times t = measured(&s, direction, effort);
         print_row(&s, direction_names[direction], t, OURS);
-        if (direction == RECEIVE)
+        if (direction == RECEIVE) {
             print_row(&s, "packets", t, PACKETS);
+            received = t;
+        }
         keep_ratios(&s, direction, t, f);
     }
     scene_freed(&s);
     fflush(stdout);
+    return received;
 }
 
-static void print_block_size(size_t block, struct effort effort, struct findings *f) {
+static size_t print_block_size(size_t block, struct effort effort, struct findings *f,
+                               struct times received[SIGNINGS]) {
     size_t data = effort.quick ? 300000 : 1200000;
     size_t blocks = data / block / MANY_PIECES * MANY_PIECES;
     printf("\n### Blocks of %zu bytes, %zu of them\n\n"
@@ -86,20 +90,49 @@ static void print_block_size(size_t block, struct effort effort, struct findings
            "|---|---|---:|---:|---:|---:|---:|---:|---:|---:|---:|---:|---:|\n",
            block, blocks);
     for (enum signing signing = PLAIN; signing < SIGNINGS; signing++) {
-        print_scene((struct shape){signing, block, blocks, 1}, effort, f);
+        received[signing] = print_scene((struct shape){signing, block, blocks, 1}, effort, f);
         print_scene((struct shape){signing, block, blocks, MANY_PIECES}, effort, f);
     }
+    return block * blocks;
 }
 
-void print_transfers(struct effort effort, struct findings *f) {
-    printf("\n## Transfers, in MB of data per second\n\n"
-           "Each row is the whole job: guard, copy and field for each block. So a guard's own cost is the difference\n"
-           "to the plain row of the same call. C loop: a table CRC or a byte-wise checksum, then memcpy. ISA-L: its\n"
-           "crc16_t10dif, then memcpy. ISA-L cp: its crc16_t10dif_copy. memcpy: the bytes alone, piece by piece.\n"
-           "Then our speed as a ratio to each. Packets have %d bytes; one call: their time to that of one receive.\n",
-           PACKET);
+void print_transfers(struct effort effort, struct findings *f, struct receives *r) {
+    printf(
+        "\n## Transfers, in MB of data per second\n\n"
+        "Each row is the whole job: guard, copy and field for each block. C loop: a table CRC or a byte-wise\n"
+        "checksum, then memcpy. ISA-L: its crc16_t10dif, then memcpy. ISA-L cp: its crc16_t10dif_copy. memcpy: the\n"
+        "bytes alone, piece by piece. Then our speed as a ratio to each. Packets have %d bytes; one call: their time\n"
+        "to that of one receive.\n",
+        PACKET);
     for (size_t i = 0; i < BLOCK_SIZES; i++)
-        print_block_size(block_sizes[i], effort, f);
+        r->data_length[i] = print_block_size(block_sizes[i], effort, f, r->times[i]);
+}
+
+void print_guards(const struct receives *r, struct findings *f) {
+    static const enum signing guards[] = {CRC_ZERO, CRC_ONES, CHECKSUM};
+    printf("\n## Guards by themselves, in MB of data per second\n\n"
+           "Ours is in no call by itself: it is what a contiguous receive takes more than a plain one, so the fields' "
+           "own\n"
+           "cost is in it. C loop and ISA-L: the guard of each block of the wire, and its comparison.\n\n"
+           "| guard         | block |     ours |   C loop |    ISA-L |  / loop | / ISA-L |\n"
+           "|---|---:|---:|---:|---:|---:|---:|\n");
+    for (size_t i = 0; i < sizeof guards / sizeof *guards; i++) {
+        for (size_t j = 0; j < BLOCK_SIZES; j++) {
+            const struct times *t = &r->times[j][guards[i]];
+            double ours = t->seconds[OURS] - r->times[j][PLAIN].seconds[OURS], loop = t->seconds[LOOP_GUARD];
+            printf("| %-13s | %5zu |", signing_names[guards[i]], block_sizes[j]);
+            print_speed(r->data_length[j], ours);
+            print_speed(r->data_length[j], loop);
+            print_speed(r->data_length[j], t->seconds[ISAL_GUARD]);
+            print_ratio(loop, ours);
+            print_ratio(t->seconds[ISAL_GUARD], ours);
+            puts("");
+            char where[48];
+            snprintf(where, sizeof where, "blocks of %zu", block_sizes[j]);
+            keep_lowest(guards[i] == CHECKSUM ? &f->checksum_guard_to_loop[j] : &f->crc_guard_to_loop, loop / ours,
+                        where);
+        }
+    }
 }
 
 static void print_cell(double value, int digits) {
@@ -149,8 +182,8 @@ void print_plain_pieces(struct effort effort, struct findings *f) {
         for (enum direction direction = SEND; direction <= RECEIVE; direction++) {
             struct times t = measured(&s, direction, effort);
             printf("| %-7s | %6zu |", direction_names[direction], plain_counts[i]);
-            print_speed(&s, t.seconds[OURS]);
-            print_speed(&s, t.seconds[MEMCPY]);
+            print_speed(s.data_length, t.seconds[OURS]);
+            print_speed(s.data_length, t.seconds[MEMCPY]);
             print_ratio(t.seconds[MEMCPY], t.seconds[OURS]);
             puts("");
             keep_lowest(&f->plain_to_memcpy[i], t.seconds[MEMCPY] / t.seconds[OURS], direction_names[direction]);
