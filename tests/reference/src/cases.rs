@@ -1,4 +1,5 @@
-//! Cases: lists of calls in the vocabulary of REPLAY.md. What they should come to is the model's business.
+//! Cases: lists of calls in the vocabulary of tests/reference/README.md. What they should come to is the model's
+//! business.
 
 pub mod random;
 pub mod settled;
@@ -14,15 +15,15 @@ pub struct Buffers {
 }
 
 impl Buffers {
-    /// REPLAY.md's.
+    /// README.md's.
     pub const REPLAY: Buffers = Buffers { memory: BUFFER_SIZE, wire: BUFFER_SIZE };
 }
 
-/// A case starts from REPLAY.md's first state.
+/// A case starts from README.md's first state.
 #[derive(Clone)]
 pub struct Case {
     pub name: String,
-    /// Larger than REPLAY.md's in a few cases that can only be run live.
+    /// Larger than README.md's in a few cases that can only be run live.
     pub buffers: Buffers,
     pub calls: Vec<Call>,
 }

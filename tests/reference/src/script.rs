@@ -1,8 +1,9 @@
-//! The calls of a case as data, the text that REPLAY.md gives them, and the state that the model runs them on.
+//! The calls of a case as data, the text that tests/reference/README.md gives them, and the state that the model runs
+//! them on.
 
 use crate::model::{answer, Configuration, Domain, Entry, Key, Layout, Session, Signature, Totals, ENTRY_LIMIT};
 
-/// Bytes of each of REPLAY.md's two buffers.
+/// Bytes of each of README.md's two buffers.
 pub const BUFFER_SIZE: usize = 16_384;
 
 #[derive(Clone, Debug, PartialEq, Eq)]
@@ -164,7 +165,7 @@ fn configure_from_numbers(numbers: &[u64]) -> Option<Call> {
     Some(Call::Configure { memory: head[0], configuration })
 }
 
-/// Pattern s of REPLAY.md.
+/// Pattern s of README.md.
 pub fn fill(buffer: &mut [u8], pattern: u64) {
     let mut x = pattern as u32;
     for byte in buffer {
@@ -173,12 +174,12 @@ pub fn fill(buffer: &mut [u8], pattern: u64) {
     }
 }
 
-/// The digest of REPLAY.md.
+/// The digest of README.md.
 pub fn digest(buffer: &[u8]) -> u64 {
     buffer.iter().fold(1, |d, &byte| (d * 257 + u64::from(byte)) % 4_294_967_291)
 }
 
-/// The state of REPLAY.md, run by the model.
+/// The state of README.md, run by the model.
 pub struct Machine {
     pub key: Key,
     /// The key's record bears its seal: without it, it is none.

@@ -9,7 +9,7 @@ use super::{entry, list_layout, Buffers, Case, Plan};
 use crate::model::{Configuration, Domain, Signature, CRC, REMAP, T10_DIF};
 use crate::script::Call;
 
-/// All settled cases that fit REPLAY.md's buffers.
+/// All settled cases that fit README.md's buffers.
 pub fn cases() -> Vec<Case> {
     [paper::cases(), answers::cases(), rules::cases(), packets::cases()].concat()
 }

@@ -17,7 +17,7 @@ pub struct RawSession {
     pub words: [u64; 57],
 }
 
-/// REPLAY.md's record of zeros.
+/// README.md's record of zeros.
 pub const NO_SESSION: RawSession = RawSession { words: [0; 57] };
 
 #[repr(C)]

@@ -1,4 +1,4 @@
-//! REPLAY.md's state, run by the library.
+//! tests/reference/README.md's state, run by the library.
 
 use super::guarded::Guarded;
 use super::library::{self, RawKey, RawSession, NO_SESSION};

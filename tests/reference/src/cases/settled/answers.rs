@@ -274,7 +274,7 @@ fn transfer_order() -> Case {
     Case::named("order of a transfer's answers").then(plan.configure()).then_all(calls.concat())
 }
 
-/// Memory at the limit and one byte beyond it: more than REPLAY.md's buffer has.
+/// Memory at the limit and one byte beyond it: more than README.md's buffer has.
 pub fn large_memory() -> Case {
     let mut plan = plan(signature(unsigned(), dif()), 24);
     plan.configuration.layout = list_layout(&[entry(MEMORY_LIMIT - 0x20, 0x20, 0)]);
