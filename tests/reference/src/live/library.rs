@@ -17,6 +17,15 @@ pub struct RawSession {
     pub words: [u64; 57],
 }
 
+impl RawSession {
+    /// By the header the key lies right behind the seal.
+    pub fn key(&self) -> RawKey {
+        let mut key = RawKey { words: [0; 45] };
+        key.words.copy_from_slice(&self.words[1..46]);
+        key
+    }
+}
+
 /// README.md's record of zeros.
 pub const NO_SESSION: RawSession = RawSession { words: [0; 57] };
 

@@ -12,7 +12,7 @@ pub struct State {
     pub wire: Guarded,
 }
 
-/// What a call printed, and whether the record that it was handed came back as it was.
+/// What a call printed, and whether the record that it was handed came back as it was: of a session, its key too.
 pub struct Reply {
     pub numbers: Vec<u64>,
     pub record_kept: bool,
@@ -110,18 +110,21 @@ impl State {
     /// "if it answers 0 the key becomes the one given back and the session the record that finish gives back"
     fn finish(&mut self) -> Reply {
         let done = library::finish(self.session);
+        let key_kept = done.key == self.session.key();
         if done.answer == answer::DONE {
             self.key = done.key;
         }
-        self.with_session(done.session, vec![done.answer])
+        let reply = self.with_session(done.session, vec![done.answer]);
+        Reply { record_kept: reply.record_kept && key_kept, ..reply }
     }
 
     /// A refused abandon hands no session back: the caller's own stays.
     fn abandon(&mut self) -> Reply {
         let done = library::abandon(self.session);
+        let record_kept = done.key == self.session.key();
         if done.answer == answer::DONE {
             (self.key, self.session) = (done.key, NO_SESSION);
         }
-        Reply { numbers: vec![done.answer], record_kept: true }
+        Reply { numbers: vec![done.answer], record_kept }
     }
 }
