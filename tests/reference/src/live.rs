@@ -10,21 +10,33 @@ use crate::cases::{random, settled, Buffers, Case};
 use crate::model::{check_numbers, BlockError};
 use crate::script::{Call, Machine};
 use crate::shrink::shrink;
+use guarded::Lending;
 use state::State;
 use std::io::{stderr, IsTerminal, Write};
 
 /// Every so many numbers one is a case of hostile records.
 const HOSTILE_EVERY: u64 = 8;
 
-/// Runs `count` cases of the seed from number `from` on; where that is 0, the settled cases before them.
-pub fn live(count: u64, seed: u64, from: u64) -> Result<(), String> {
+/// Which cases are run, and how.
+pub struct Run {
+    pub count: u64,
+    pub seed: u64,
+    /// The number of the first random case; before number 0 come the settled ones.
+    pub from: u64,
+    /// Each call is lent blocks of the very size, for valgrind.
+    pub exact: bool,
+}
+
+pub fn live(run: &Run) -> Result<(), String> {
+    let Run { count, seed, from, exact } = *run;
+    let (lending, flag) = if exact { (Lending::Exact, " --exact") } else { (Lending::InPlace, "") };
     watch::start();
-    let (settled, mut calls) = if from == 0 { run_settled()? } else { (0, 0) };
+    let (settled, mut calls) = if from == 0 { run_settled(lending)? } else { (0, 0) };
     let mut progress = Progress::new(count);
     for number in from..from + count {
         watch::begin(format!("case {number} of seed {seed}"));
-        calls += run_number(seed, number)
-            .map_err(|difference| format!("{difference}\nagain with: reference live 1 {seed} --from {number}"))?;
+        calls += run_number(seed, number, lending)
+            .map_err(|difference| format!("{difference}\nagain with: reference live 1 {seed} --from {number}{flag}"))?;
         progress.step();
     }
     println!("live: {settled} settled and {count} random cases of seed {seed}, {calls} calls: no difference");
@@ -32,38 +44,39 @@ pub fn live(count: u64, seed: u64, from: u64) -> Result<(), String> {
 }
 
 /// The number of settled cases and of their calls, or what differed.
-fn run_settled() -> Result<(usize, usize), String> {
+fn run_settled(lending: Lending) -> Result<(usize, usize), String> {
     watch::begin("wrong seals".to_string());
-    let mut calls = hostile::run_wrong_seals()?;
+    let mut calls = hostile::run_wrong_seals(lending)?;
     let cases = [settled::cases(), settled::large_cases()].concat();
     for case in &cases {
         watch::begin(format!("settled case {}", case.name));
-        calls += run_case(case)?;
+        calls += run_case(case, lending)?;
     }
     Ok((cases.len(), calls))
 }
 
 /// The number of calls made, or what differed.
-fn run_number(seed: u64, number: u64) -> Result<usize, String> {
+fn run_number(seed: u64, number: u64, lending: Lending) -> Result<usize, String> {
     if number % HOSTILE_EVERY == HOSTILE_EVERY - 1 {
-        hostile::run(seed, number).map_err(|fault| format!("seed {seed}, case {number}, hostile records: {fault}"))
+        hostile::run(seed, number, lending)
+            .map_err(|fault| format!("seed {seed}, case {number}, hostile records: {fault}"))
     } else {
-        run_case(&random::case(seed, number))
+        run_case(&random::case(seed, number), lending)
     }
 }
 
-fn run_case(case: &Case) -> Result<usize, String> {
-    match compare(&case.calls, case.buffers) {
+fn run_case(case: &Case, lending: Lending) -> Result<usize, String> {
+    match compare(&case.calls, case.buffers, lending) {
         None => Ok(case.calls.len()),
-        Some(_) => Err(report(case)),
+        Some(_) => Err(report(case, lending)),
     }
 }
 
 /// The case made small, with what was expected and what came.
-fn report(case: &Case) -> String {
-    let calls = shrink(&case.calls, |calls| compare(calls, case.buffers).is_some());
+fn report(case: &Case, lending: Lending) -> String {
+    let calls = shrink(&case.calls, |calls| compare(calls, case.buffers, lending).is_some());
     let mut report = format!("{}: the library differs from the model. Made small:\n", case.name);
-    let difference = compare(&calls, case.buffers).expect("a shrunk case still differs");
+    let difference = compare(&calls, case.buffers, lending).expect("a shrunk case still differs");
     for call in &calls[..=difference.at] {
         report += &format!("  {}\n", call.text());
     }
@@ -77,9 +90,9 @@ struct Difference {
 }
 
 /// Runs the calls on both sides: the first difference.
-fn compare(calls: &[Call], buffers: Buffers) -> Option<Difference> {
+fn compare(calls: &[Call], buffers: Buffers, lending: Lending) -> Option<Difference> {
     let mut model = Machine::new(buffers.memory, buffers.wire);
-    let mut state = State::new(buffers.memory, buffers.wire);
+    let mut state = State::new(buffers, lending);
     for (at, call) in calls.iter().enumerate() {
         if !model.fits(call) || !model.keeps_premise(call) {
             return None;

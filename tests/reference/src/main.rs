@@ -1,11 +1,13 @@
 //! The commands of the independent test program.
 
+#[cfg(feature = "live")]
+use reference::live;
 use reference::{paper, replay};
 use std::process::ExitCode;
 
 const USAGE: &str = "usage: reference paper
        reference replay SEED CASEFILE ANSWERFILE
-       reference live COUNT SEED [--from NUMBER]";
+       reference live COUNT SEED [--from NUMBER] [--exact]";
 
 fn main() -> ExitCode {
     let arguments: Vec<String> = std::env::args().skip(1).collect();
@@ -13,8 +15,7 @@ fn main() -> ExitCode {
     let outcome = match arguments[..] {
         ["paper"] => run_paper(),
         ["replay", seed, case_file, answer_file] => run_replay(seed, case_file, answer_file),
-        ["live", count, seed] => run_live(count, seed, "0"),
-        ["live", count, seed, "--from", from] => run_live(count, seed, from),
+        ["live", count, seed, ref options @ ..] => run_live(count, seed, options),
         _ => Err(USAGE.to_string()),
     };
     match outcome {
@@ -63,11 +64,22 @@ fn run_replay(seed: &str, case_file: &str, answer_file: &str) -> Result<(), Stri
 }
 
 #[cfg(feature = "live")]
-fn run_live(count: &str, seed: &str, from: &str) -> Result<(), String> {
-    reference::live::live(number(count)?, number(seed)?, number(from)?)
+fn run_live(count: &str, seed: &str, options: &[&str]) -> Result<(), String> {
+    let run = live::Run { count: number(count)?, seed: number(seed)?, from: 0, exact: false };
+    live::live(&with_options(run, options)?)
+}
+
+#[cfg(feature = "live")]
+fn with_options(run: live::Run, options: &[&str]) -> Result<live::Run, String> {
+    match options {
+        [] => Ok(run),
+        ["--from", from, rest @ ..] => with_options(live::Run { from: number(from)?, ..run }, rest),
+        ["--exact", rest @ ..] => with_options(live::Run { exact: true, ..run }, rest),
+        _ => Err(USAGE.to_string()),
+    }
 }
 
 #[cfg(not(feature = "live"))]
-fn run_live(_: &str, _: &str, _: &str) -> Result<(), String> {
+fn run_live(_: &str, _: &str, _: &[&str]) -> Result<(), String> {
     Err("this program was built without the library: build it with --features live".to_string())
 }

@@ -1,20 +1,32 @@
-//! A buffer with guard bytes on both sides, which no call may change.
+//! A buffer with guard bytes on both sides, which no call may change, and its parts as a call is lent them.
+
+use std::ops::{Deref, DerefMut};
 
 /// An odd number, so that what is lent is not aligned.
 const GUARD_BYTES: usize = 67;
 
+/// How a call is lent its bytes.
+#[derive(Clone, Copy)]
+pub enum Lending {
+    /// Where they lie, between guard bytes, which show a write beside them.
+    InPlace,
+    /// Copied to a heap block of their very size, so that valgrind sees a read or write beside them.
+    Exact,
+}
+
 pub struct Guarded {
     bytes: Vec<u8>,
+    lending: Lending,
 }
 
 impl Guarded {
-    pub fn new(size: usize) -> Guarded {
+    pub fn new(size: usize, lending: Lending) -> Guarded {
         let mut bytes = vec![0; size + 2 * GUARD_BYTES];
         for at in 0..GUARD_BYTES {
             bytes[at] = guard_byte(at);
             bytes[GUARD_BYTES + size + at] = guard_byte(at);
         }
-        Guarded { bytes }
+        Guarded { bytes, lending }
     }
 
     pub fn all(&self) -> &[u8] {
@@ -26,17 +38,52 @@ impl Guarded {
         &mut self.bytes[GUARD_BYTES..end]
     }
 
-    pub fn part(&self, at: u64, count: u64) -> &[u8] {
-        &self.all()[at as usize..][..count as usize]
-    }
-
     pub fn part_mut(&mut self, at: u64, count: u64) -> &mut [u8] {
         &mut self.all_mut()[at as usize..][..count as usize]
+    }
+
+    pub fn lend(&mut self, at: u64, count: u64) -> Lent<'_> {
+        let lending = self.lending;
+        let own = self.part_mut(at, count);
+        let block = match lending {
+            Lending::InPlace => None,
+            Lending::Exact => Some(Box::from(&*own)),
+        };
+        Lent { own, block }
     }
 
     pub fn guards_are_intact(&self) -> bool {
         let behind = self.bytes.len() - GUARD_BYTES;
         (0..GUARD_BYTES).all(|at| self.bytes[at] == guard_byte(at) && self.bytes[behind + at] == guard_byte(at))
+    }
+}
+
+/// Bytes lent to a call.
+pub struct Lent<'a> {
+    own: &'a mut [u8],
+    block: Option<Box<[u8]>>,
+}
+
+impl Deref for Lent<'_> {
+    type Target = [u8];
+
+    fn deref(&self) -> &[u8] {
+        self.block.as_deref().unwrap_or(self.own)
+    }
+}
+
+impl DerefMut for Lent<'_> {
+    fn deref_mut(&mut self) -> &mut [u8] {
+        self.block.as_deref_mut().unwrap_or(self.own)
+    }
+}
+
+/// A copy goes back, also where it was lent for reading alone: a write to it must show.
+impl Drop for Lent<'_> {
+    fn drop(&mut self) {
+        if let Some(block) = &self.block {
+            self.own.copy_from_slice(block);
+        }
     }
 }
 
@@ -51,13 +98,22 @@ mod tests {
 
     #[test]
     fn guards_lie_right_beside_the_buffer() {
-        let mut buffer = Guarded::new(8);
+        let mut buffer = Guarded::new(8, Lending::InPlace);
         buffer.all_mut().fill(0xFF);
         assert!(buffer.guards_are_intact());
         for at in [GUARD_BYTES - 1, GUARD_BYTES + 8] {
-            let mut changed = Guarded::new(8);
+            let mut changed = Guarded::new(8, Lending::InPlace);
             changed.bytes[at] ^= 1;
             assert!(!changed.guards_are_intact());
+        }
+    }
+
+    #[test]
+    fn what_is_written_to_a_lent_part_is_in_the_buffer() {
+        for lending in [Lending::InPlace, Lending::Exact] {
+            let mut buffer = Guarded::new(8, lending);
+            buffer.lend(2, 3).fill(0xFF);
+            assert_eq!(buffer.all(), [0, 0, 0xFF, 0xFF, 0xFF, 0, 0, 0]);
         }
     }
 }

@@ -2,10 +2,11 @@
 //! changed. What such a call answers is the library's affair; that it returns, what it leaves alone and that it refuses
 //! a wrong seal is not.
 
+use super::guarded::Lending;
 use super::library::{RawKey, RawSession};
 use super::state::{Reply, State};
 use crate::cases::random::plans;
-use crate::cases::{Direction, Plan};
+use crate::cases::{Buffers, Direction, Plan};
 use crate::model::answer;
 use crate::rng::Rng;
 use crate::script::{Call, BUFFER_SIZE};
@@ -14,8 +15,8 @@ use crate::script::{Call, BUFFER_SIZE};
 const LIKELY_NUMBERS: [u32; 16] = [0, 1, 2, 7, 8, 12, 16, 17, 64, 1024, 1025, 4160, 4168, 0xFFFF, 1 << 31, u32::MAX];
 
 /// The number of calls made, or what a call did that it must not.
-pub fn run(seed: u64, number: u64) -> Result<usize, String> {
-    let mut trial = Trial::new(Rng::of_case(seed, number));
+pub fn run(seed: u64, number: u64, lending: Lending) -> Result<usize, String> {
+    let mut trial = Trial::new(Rng::of_case(seed, number), lending);
     trial.make_true_records();
     trial.spoil_records();
     let calls = trial.rng.between(1, 6) as usize;
@@ -27,10 +28,10 @@ pub fn run(seed: u64, number: u64) -> Result<usize, String> {
 }
 
 /// Each call with each wrong seal before an otherwise true record.
-pub fn run_wrong_seals() -> Result<usize, String> {
+pub fn run_wrong_seals(lending: Lending) -> Result<usize, String> {
     let mut calls = 0;
     for wrong in 0..wrong_seals(0, 0).len() {
-        let mut trial = Trial::new(Rng::new(1));
+        let mut trial = Trial::new(Rng::new(1), lending);
         trial.make_true_records();
         let (key_seal, session_seal) = (trial.key_seal, trial.session_seal);
         trial.state.key.words[0] = wrong_seals(key_seal, session_seal)[wrong];
@@ -60,9 +61,9 @@ struct Before {
 }
 
 impl Trial {
-    fn new(mut rng: Rng) -> Trial {
+    fn new(mut rng: Rng, lending: Lending) -> Trial {
         let plan = plans::plan(&mut rng);
-        let state = State::new(BUFFER_SIZE, BUFFER_SIZE);
+        let state = State::new(Buffers::REPLAY, lending);
         let key_seal = state.key.words[0];
         Trial { rng, plan, state, key_seal, session_seal: 0 }
     }

@@ -1,7 +1,8 @@
 //! tests/reference/README.md's state, run by the library.
 
-use super::guarded::Guarded;
+use super::guarded::{Guarded, Lending};
 use super::library::{self, RawKey, RawSession, NO_SESSION};
+use crate::cases::Buffers;
 use crate::model::{answer, Configuration};
 use crate::script::{fill, Call};
 
@@ -19,12 +20,12 @@ pub struct Reply {
 }
 
 impl State {
-    pub fn new(memory_size: usize, wire_size: usize) -> State {
+    pub fn new(buffers: Buffers, lending: Lending) -> State {
         State {
             key: library::fresh(),
             session: NO_SESSION,
-            memory: Guarded::new(memory_size),
-            wire: Guarded::new(wire_size),
+            memory: Guarded::new(buffers.memory, lending),
+            wire: Guarded::new(buffers.wire, lending),
         }
     }
 
@@ -70,19 +71,18 @@ impl State {
     }
 
     fn configure(&mut self, memory: u64, configuration: &Configuration) -> Reply {
-        let done = library::configure(self.key, self.memory.part(0, memory), configuration);
+        let done = library::configure(self.key, &self.memory.lend(0, memory), configuration);
         self.with_key(done.key, vec![done.answer])
     }
 
     fn send(&mut self, memory: u64, wire: u64, offset: u64, length: u64) -> Reply {
-        let (memory, wire) = (self.memory.part(0, memory), self.wire.part_mut(0, wire));
-        let done = library::send(self.key, memory, wire, offset, length);
+        let done = library::send(self.key, &self.memory.lend(0, memory), &mut self.wire.lend(0, wire), offset, length);
         self.with_key(done.key, vec![done.answer, done.taken, done.written])
     }
 
     fn receive(&mut self, memory: u64, wire: u64, offset: u64, length: u64) -> Reply {
-        let (memory, wire) = (self.memory.part_mut(0, memory), self.wire.part(0, wire));
-        let done = library::receive(self.key, memory, wire, offset, length);
+        let done =
+            library::receive(self.key, &mut self.memory.lend(0, memory), &self.wire.lend(0, wire), offset, length);
         self.with_key(done.key, vec![done.answer, done.taken, done.written])
     }
 
@@ -94,7 +94,7 @@ impl State {
 
     /// An accepted open says nothing of its key: the caller's own stays.
     fn open(&mut self, memory: u64, offset: u64, length: u64) -> Reply {
-        let done = library::open(self.key, self.memory.part(0, memory), offset, length);
+        let done = library::open(self.key, &self.memory.lend(0, memory), offset, length);
         if done.answer == answer::DONE {
             self.session = done.session;
         }
@@ -102,8 +102,7 @@ impl State {
     }
 
     fn packet(&mut self, memory: u64, at: u64, count: u64) -> Reply {
-        let (memory, bytes) = (self.memory.part_mut(0, memory), self.wire.part(at, count));
-        let done = library::packet(self.session, memory, bytes);
+        let done = library::packet(self.session, &mut self.memory.lend(0, memory), &self.wire.lend(at, count));
         self.with_session(done.session, vec![done.answer, done.taken, done.written])
     }
 
