@@ -12,6 +12,26 @@ pub fn shrink(calls: &[Call], fails: impl Fn(&[Call]) -> bool) -> Vec<Call> {
     shrinking.calls
 }
 
+/// Drops runs of items, long ones first, while the rest goes on failing.
+pub fn drop_runs<T: Clone>(items: &[T], fails: impl Fn(&[T]) -> bool) -> Vec<T> {
+    let mut items = items.to_vec();
+    let mut run = items.len().next_power_of_two();
+    while run > 0 {
+        let mut at = 0;
+        while at < items.len() {
+            let end = (at + run).min(items.len());
+            let fewer = [&items[..at], &items[end..]].concat();
+            if fails(&fewer) {
+                items = fewer;
+            } else {
+                at += run;
+            }
+        }
+        run /= 2;
+    }
+    items
+}
+
 struct Shrinking<F> {
     calls: Vec<Call>,
     fails: F,
@@ -19,33 +39,23 @@ struct Shrinking<F> {
 }
 
 impl<F: Fn(&[Call]) -> bool> Shrinking<F> {
+    fn fails(&self, calls: &[Call]) -> bool {
+        Instant::now() < self.end && (self.fails)(calls)
+    }
+
     /// Takes the smaller case if it still fails.
     fn accept(&mut self, smaller: Vec<Call>) -> bool {
-        let accepted = Instant::now() < self.end && (self.fails)(&smaller);
+        let accepted = self.fails(&smaller);
         if accepted {
             self.calls = smaller;
         }
         accepted
     }
 
-    /// Drops runs of calls, long ones first.
     fn drop_calls(&mut self) -> bool {
-        let mut dropped = false;
-        let mut run = self.calls.len().next_power_of_two();
-        while run > 0 {
-            let mut at = 0;
-            while at < self.calls.len() {
-                let end = (at + run).min(self.calls.len());
-                let smaller = [&self.calls[..at], &self.calls[end..]].concat();
-                if self.accept(smaller) {
-                    dropped = true;
-                } else {
-                    at += run;
-                }
-            }
-            run /= 2;
-        }
-        dropped
+        let before = self.calls.len();
+        self.calls = drop_runs(&self.calls, |calls| self.fails(calls));
+        self.calls.len() < before
     }
 
     /// Numbers that belong together, as a memory's length in all calls: the same one wherever it stands.
