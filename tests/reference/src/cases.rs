@@ -8,7 +8,7 @@ use crate::model::{Configuration, Domain, Entry, Layout, Rule, Signature};
 use crate::script::{Call, BUFFER_SIZE};
 
 /// How many bytes the two buffers of a case have.
-#[derive(Clone, Copy)]
+#[derive(Clone, Copy, PartialEq, Eq)]
 pub struct Buffers {
     pub memory: usize,
     pub wire: usize,

@@ -1,21 +1,30 @@
-//! The library held against the model, live: random cases call by call, and records that no call ever made.
+//! The library held against the model, live: random cases call by call, and records that no call ever made. All calls
+//! are made in child processes, so that the program outlives the library and can make a case small.
 
+mod child;
+mod compared;
 mod guarded;
 mod hostile;
 mod library;
 mod state;
-mod watch;
+mod trial;
 
-use crate::cases::{random, settled, Buffers, Case};
-use crate::model::{check_numbers, BlockError};
-use crate::script::{Call, Machine};
-use crate::shrink::shrink;
+use crate::cases::{random, settled};
 use guarded::Lending;
-use state::State;
-use std::io::{stderr, IsTerminal, Write};
+use hostile::HostileCase;
+use std::io::{stderr, IsTerminal, PipeWriter, Write};
+use std::os::unix::process::ExitStatusExt;
+use std::process::ExitStatus;
+use trial::{Fault, Trial};
 
 /// Every so many numbers one is a case of hostile records.
 const HOSTILE_EVERY: u64 = 8;
+
+/// A case that doesn't return is run many times to make it small, with this part of its time.
+const SHORT: u32 = 50;
+
+/// The words for a call that doesn't return.
+const HANGS: &str = "a call doesn't return";
 
 /// Which cases are run, and how.
 pub struct Run {
@@ -27,130 +36,123 @@ pub struct Run {
     pub exact: bool,
 }
 
+/// Cases in a row.
+struct Row<'a> {
+    count: u64,
+    trial: &'a dyn Fn(u64) -> Trial,
+    /// The numbers behind `reference live` that run such a case again.
+    again: &'a dyn Fn(u64) -> String,
+}
+
 pub fn live(run: &Run) -> Result<(), String> {
-    let Run { count, seed, from, exact } = *run;
-    let (lending, flag) = if exact { (Lending::Exact, " --exact") } else { (Lending::InPlace, "") };
-    watch::start();
-    let (settled, mut calls) = if from == 0 { run_settled(lending)? } else { (0, 0) };
+    let &Run { count, seed, from, .. } = run;
+    let settled = if from == 0 { settled_trials() } else { Vec::new() };
+    let settled_row =
+        Row { count: settled.len() as u64, trial: &|at| settled[at as usize].clone(), again: &|_| format!("0 {seed}") };
+    let random_row = Row {
+        count,
+        trial: &|at| random_trial(seed, from + at),
+        again: &|at| format!("1 {seed} --from {}", from + at),
+    };
     let mut progress = Progress::new(count);
-    for number in from..from + count {
-        watch::begin(format!("case {number} of seed {seed}"));
-        calls += run_number(seed, number, lending)
-            .map_err(|difference| format!("{difference}\nagain with: reference live 1 {seed} --from {number}{flag}"))?;
-        progress.step();
-    }
-    println!("live: {settled} settled and {count} random cases of seed {seed}, {calls} calls: no difference");
+    let calls = run.run_row(&settled_row, || {})? + run.run_row(&random_row, || progress.step())?;
+    println!("live: {} settled and {count} random cases of seed {seed}, {calls} calls: no difference", settled.len());
     Ok(())
 }
 
-/// The number of settled cases and of their calls, or what differed.
-fn run_settled(lending: Lending) -> Result<(usize, usize), String> {
-    watch::begin("wrong seals".to_string());
-    let mut calls = hostile::run_wrong_seals(lending)?;
-    let cases = [settled::cases(), settled::large_cases()].concat();
-    for case in &cases {
-        watch::begin(format!("settled case {}", case.name));
-        calls += run_case(case, lending)?;
-    }
-    Ok((cases.len(), calls))
+fn settled_trials() -> Vec<Trial> {
+    let wrong_seals = HostileCase::wrong_seals().into_iter().map(Trial::Hostile);
+    wrong_seals.chain([settled::cases(), settled::large_cases()].concat().into_iter().map(Trial::Compared)).collect()
 }
 
-/// The number of calls made, or what differed.
-fn run_number(seed: u64, number: u64, lending: Lending) -> Result<usize, String> {
+fn random_trial(seed: u64, number: u64) -> Trial {
     if number % HOSTILE_EVERY == HOSTILE_EVERY - 1 {
-        hostile::run(seed, number, lending)
-            .map_err(|fault| format!("seed {seed}, case {number}, hostile records: {fault}"))
+        Trial::Hostile(HostileCase::random(seed, number))
     } else {
-        run_case(&random::case(seed, number), lending)
+        Trial::Compared(random::case(seed, number))
     }
 }
 
-fn run_case(case: &Case, lending: Lending) -> Result<usize, String> {
-    match compare(&case.calls, case.buffers, lending) {
-        None => Ok(case.calls.len()),
-        Some(_) => Err(report(case, lending)),
-    }
-}
-
-/// The case made small, with what was expected and what came.
-fn report(case: &Case, lending: Lending) -> String {
-    let calls = shrink(&case.calls, |calls| compare(calls, case.buffers, lending).is_some());
-    let mut report = format!("{}: the library differs from the model. Made small:\n", case.name);
-    let difference = compare(&calls, case.buffers, lending).expect("a shrunk case still differs");
-    for call in &calls[..=difference.at] {
-        report += &format!("  {}\n", call.text());
-    }
-    report + &format!("expected of the last call: {}\ncame: {}", difference.expected, difference.came)
-}
-
-struct Difference {
-    at: usize,
-    expected: String,
-    came: String,
-}
-
-/// Runs the calls on both sides: the first difference.
-fn compare(calls: &[Call], buffers: Buffers, lending: Lending) -> Option<Difference> {
-    let mut model = Machine::new(buffers.memory, buffers.wire);
-    let mut state = State::new(buffers, lending);
-    for (at, call) in calls.iter().enumerate() {
-        if !model.fits(call) || !model.keeps_premise(call) {
-            return None;
-        }
-        if let Some((expected, came)) = compare_call(&mut model, &mut state, call) {
-            return Some(Difference { at, expected, came });
+impl Run {
+    fn lending(&self) -> Lending {
+        if self.exact {
+            Lending::Exact
+        } else {
+            Lending::InPlace
         }
     }
-    None
-}
 
-/// One call on both sides, and all that can be seen after it: what was expected and what came, where they differ.
-fn compare_call(model: &mut Machine, state: &mut State, call: &Call) -> Option<(String, String)> {
-    let (expected, reply) = (model.run(call), state.run(call));
-    let (expected, reply) = (expected?, reply?);
-    let differs = |expected: &str, came: &str| Some((expected.to_string(), came.to_string()));
-    if reply.numbers != expected {
-        return differs(&format!("{expected:?}"), &format!("{:?}", reply.numbers));
-    }
-    if expected[0] != 0 && !reply.record_kept {
-        return differs("a refusal leaves the record", "another record");
-    }
-    if !state.memory.guards_are_intact() || !state.wire.guards_are_intact() {
-        return differs("no byte outside the buffers changes", "a guard byte changed");
-    }
-    compare_bytes("memory", &model.memory, state.memory.all())
-        .or_else(|| compare_bytes("wire", &model.wire, state.wire.all()))
-        .or_else(|| compare_slots(model, state))
-}
-
-fn compare_bytes(what: &str, model: &[u8], library: &[u8]) -> Option<(String, String)> {
-    if model == library {
-        return None;
-    }
-    let at = model.iter().zip(library).position(|(expected, came)| expected != came)?;
-    Some((format!("{what} byte {at:x} is {:02x}", model[at]), format!("{:02x}", library[at])))
-}
-
-/// The recorded errors, read from copies: the key's by check, the session's by abandon and check.
-fn compare_slots(model: &Machine, state: &State) -> Option<(String, String)> {
-    let of_key = model.sealed.then(|| compare_slot("the key's", model.key.slot, &library::check(state.key))).flatten();
-    of_key.or_else(|| {
-        let session = model.session.as_ref()?;
-        let abandoned = library::abandon(state.session);
-        if abandoned.answer != 0 {
-            return Some(("abandon is always accepted".to_string(), abandoned.answer.to_string()));
+    /// The number of calls made, or a report of the case that went wrong.
+    fn run_row(&self, row: &Row, step: impl FnMut()) -> Result<u64, String> {
+        let Heard { cases, calls, fault } = self.run_in_child(row.count, row.trial, 1, step);
+        match fault {
+            None => Ok(calls),
+            Some(fault) if cases == row.count => Err(format!("behind the last case: {}", fault.words)),
+            Some(fault) => {
+                let report = self.report(&(row.trial)(cases), &fault);
+                let flag = if self.exact { " --exact" } else { "" };
+                Err(format!("{report}\nagain with: reference live {}{flag}", (row.again)(cases)))
+            }
         }
-        compare_slot("the session's", session.recorded(), &library::check(abandoned.key))
-    })
+    }
+
+    /// Runs so many cases in one child, each in a part of its time, up to the first fault.
+    fn run_in_child(&self, count: u64, trial: &dyn Fn(u64) -> Trial, part: u32, mut step: impl FnMut()) -> Heard {
+        let (mut cases, mut calls, mut said) = (0, 0, Vec::new());
+        let work = |parent: &mut PipeWriter| {
+            for at in 0..count {
+                let trial = trial(at);
+                child::limit(trial.limit() / part);
+                match trial.run(self.lending()) {
+                    Ok(calls) => child::say(&calls.to_string(), parent),
+                    Err(fault) => return child::say(&format!("{}\n{}", fault.words, fault.more), parent),
+                }
+            }
+        };
+        let end = child::run(work, |line| match line.parse::<u64>() {
+            Ok(made) => {
+                (cases, calls) = (cases + 1, calls + made);
+                step();
+            }
+            Err(_) => said.push(line),
+        });
+        let fault = match said.split_first() {
+            Some((words, more)) => Some(Fault { words: words.clone(), more: more.join("\n") }),
+            None if end.success() && cases == count => None,
+            None => Some(fault_of_end(end)),
+        };
+        Heard { cases, calls, fault }
+    }
+
+    /// The case made small, with its fault.
+    fn report(&self, trial: &Trial, fault: &Fault) -> String {
+        let again = |trial: &Trial, part: u32| {
+            let found = self.run_in_child(1, &|_| trial.clone(), part, || {}).fault;
+            found.filter(|found| found.words == fault.words)
+        };
+        let part = if fault.words == HANGS { SHORT } else { 1 };
+        let small = trial.shrunk(self.lending(), |smaller| again(smaller, part).is_some());
+        let (how, trial, more) = match again(&small, 1) {
+            Some(found) => ("Made small", small, found.more),
+            None => ("Not seen again, so not made small", trial.shrunk(self.lending(), |_| false), fault.more.clone()),
+        };
+        let lines: String = trial.text().lines().map(|line| format!("  {line}\n")).collect();
+        format!("{}: {}. {how}:\n{lines}{more}", trial.name(), fault.words)
+    }
 }
 
-fn compare_slot(whose: &str, slot: Option<BlockError>, checked: &library::Checked) -> Option<(String, String)> {
-    let expected = check_numbers(slot);
-    let came = [checked.kind, checked.actual, checked.expected, checked.offset];
-    if checked.answer == 0 && expected == came {
-        return None;
-    }
-    Some((format!("{whose} slot {expected:?}"), format!("answer {}, {came:?}", checked.answer)))
+/// What came of a child: cases without a fault, their calls, and the fault of the case behind them.
+struct Heard {
+    cases: u64,
+    calls: u64,
+    fault: Option<Fault>,
+}
+
+/// The fault of a child that said none.
+fn fault_of_end(end: ExitStatus) -> Fault {
+    let hangs = end.signal() == Some(child::ALARM);
+    let words = if hangs { HANGS.to_string() } else { format!("the process ends with {end}") };
+    Fault { words, more: "expected: each call returns".to_string() }
 }
 
 /// A line on a terminal that is written over, else a line for each tenth.

@@ -1,5 +1,6 @@
 //! A small generator of numbers (splitmix64): a case is known by its seed and number alone.
 
+#[derive(Clone)]
 pub struct Rng {
     state: u64,
 }
