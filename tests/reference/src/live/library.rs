@@ -18,10 +18,11 @@ pub struct RawSession {
 }
 
 impl RawSession {
-    /// By the header the key lies right behind the seal.
-    pub fn key(&self) -> RawKey {
+    /// What a refused finish or abandon gives in a key's place: the session's own, which by the header lies right behind
+    /// its seal, without a seal.
+    pub fn unsealed_key(&self) -> RawKey {
         let mut key = RawKey { words: [0; 45] };
-        key.words.copy_from_slice(&self.words[1..46]);
+        key.words[1..].copy_from_slice(&self.words[2..46]);
         key
     }
 }

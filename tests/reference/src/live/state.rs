@@ -13,7 +13,8 @@ pub struct State {
     pub wire: Guarded,
 }
 
-/// What a call printed, and whether the record that it was handed came back as it was: of a session, its key too.
+/// What a call printed, and whether the record that it was handed came back as it was, of a session its key too, without
+/// its seal.
 pub struct Reply {
     pub numbers: Vec<u64>,
     pub record_kept: bool,
@@ -109,7 +110,7 @@ impl State {
     /// "if it answers 0 the key becomes the one given back and the session the record that finish gives back"
     fn finish(&mut self) -> Reply {
         let done = library::finish(self.session);
-        let key_kept = done.key == self.session.key();
+        let key_kept = done.key == self.session.unsealed_key();
         if done.answer == answer::DONE {
             self.key = done.key;
         }
@@ -120,7 +121,7 @@ impl State {
     /// A refused abandon hands no session back: the caller's own stays.
     fn abandon(&mut self) -> Reply {
         let done = library::abandon(self.session);
-        let record_kept = done.key == self.session.key();
+        let record_kept = done.key == self.session.unsealed_key();
         if done.answer == answer::DONE {
             (self.key, self.session) = (done.key, NO_SESSION);
         }
