@@ -1,5 +1,5 @@
 # make            build/libgaroalva.a and build/libgaroalva.so; proves the crate, so rt must be on the path
-# make test       header, both examples against an installed copy, the Rust crate, tests/run
+# make test       header, both examples against an installed copy, the Rust crate, the test program's own tests, tests/run
 # make bench      bench/run; QUICK=--quick for a short one
 # make install    PREFIX=/usr/local DESTDIR=
 # make clean
@@ -18,7 +18,7 @@ PKG_CONFIG := PKG_CONFIG_PATH=$(STAGE)/lib/pkgconfig pkg-config
 
 PROVED := $(wildcard crates.txt) $(shell test -d crates && find crates -name '*.rt' -o -name '*.antt')
 
-.PHONY: all test test-header test-c test-rust bench install clean
+.PHONY: all test test-header test-c test-rust test-reference bench install clean
 .DELETE_ON_ERROR:
 
 all: build/libgaroalva.a build/libgaroalva.so
@@ -41,7 +41,7 @@ build/libgaroalva.so: build/$(SHARED)
 	ln -sf $(SHARED) build/$(SONAME)
 	ln -sf $(SONAME) $@
 
-test: test-header test-c test-rust
+test: test-header test-c test-rust test-reference
 	tests/run
 
 # -Wpadded: where padding takes the rest of a field that is too narrow, sizes and offsets stay as asserted.
@@ -65,6 +65,9 @@ test-rust: build/libgaroalva.a
 	$(CARGO) test $(CRATE)
 	$(CARGO) run --quiet $(CRATE) --example protect > build/protect-rust.txt
 	diff examples/expected.txt build/protect-rust.txt
+
+test-reference: build/libgaroalva.a
+	$(CARGO) test --quiet --offline --manifest-path tests/reference/Cargo.toml --features live
 
 bench: build/libgaroalva.a
 	bench/run $(QUICK)
