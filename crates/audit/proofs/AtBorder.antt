@@ -21,15 +21,15 @@ use Rattle.transfer.specs.Transferring.{answerOf, answered, becomes, sending, w
 use Rattle.packets.specs.declared.Session.{Session}
 use Rattle.packets.specs.declared.Opened.{Opened}
 use Rattle.packets.specs.Sessions.{opening, packetAnswer, packing, packedBy, memoryPacked, finishedBy, finishAnswer, keyOf, abandoning, SessionFromCalls}
-use Rattle.capi.specs.declared.ConfigurationRecord.{ConfigurationRecord}
+use Rattle.records.specs.declared.ConfigurationRecord.{ConfigurationRecord}
 use Rattle.capi.specs.declared.OpenedRecord.{OpenedRecord}
-use Rattle.capi.specs.declared.KeyRecord.{KeyRecord}
-use Rattle.capi.specs.declared.SessionRecord.{SessionRecord}
-use Rattle.capi.specs.Records.{configurationIn, keyIn, keyRecord, isKey, sessionIn, sessionRecord, isSession}
-use Rattle.capi.specs.Border.{unsealed, noSession, configuredRecord, transferredRecord, sessionOpened, openedRecord, packedRecord, finishedRecord, configureAtBorder, sendAtBorder, wireAtBorder, receiveAtBorder, memoryAtBorder, openAtBorder, packetAtBorder, packetMemoryAtBorder, finishAtBorder}
+use Rattle.records.specs.declared.KeyRecord.{KeyRecord}
+use Rattle.records.specs.declared.SessionRecord.{SessionRecord}
+use Rattle.records.specs.Records.{configurationIn, keyIn, keyRecord, isKey, sessionIn, sessionRecord, isSession, unsealed, noSession}
+use Rattle.capi.specs.Border.{configuredRecord, transferredRecord, sessionOpened, openedRecord, packedRecord, finishedRecord, configureAtBorder, sendAtBorder, wireAtBorder, receiveAtBorder, memoryAtBorder, openAtBorder, packetAtBorder, packetMemoryAtBorder, finishAtBorder}
 use Rattle.capi.specs.Cases.{ActsAs, SessionActsAs}
 use Rattle.capi.proofs.Cases.{border, session-acts}
-use Rattle.capi.proofs.Laws.{key-passes, key-back, session-passes, session-back}
+use Rattle.records.proofs.Laws.{key-passes, key-back, session-passes, session-back}
 use Rattle.audit.specs.AtBorder.{Refuses, KeyCame, SessionCame, BorderKept, RefusedAtBorder}
 use Rattle.audit.proofs.Premise.{premise-kept}
 

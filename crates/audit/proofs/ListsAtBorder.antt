@@ -15,11 +15,11 @@ use Rattle.packets.specs.Sessions.{ruleOf, packetAnswer, packedBy, opening, pac
 use Rattle.packets.specs.PacketRule.{Call}
 use Rattle.packets.specs.Lists.{Made}
 use Rattle.packets.proofs.Following.{packets-follow-the-rule}
-use Rattle.capi.specs.declared.SessionRecord.{SessionRecord}
+use Rattle.records.specs.declared.SessionRecord.{SessionRecord}
 use Rattle.capi.specs.declared.OpenedRecord.{OpenedRecord}
 use Rattle.capi.specs.declared.PackedRecord.{PackedRecord}
 use Rattle.capi.specs.declared.FinishedRecord.{FinishedRecord}
-use Rattle.capi.specs.Records.{keyRecord, sessionRecord}
+use Rattle.records.specs.Records.{keyRecord, sessionRecord}
 use Rattle.capi.specs.Border.{finishedRecord, openAtBorder}
 use Rattle.capi.specs.Cases.{SessionActsAs}
 use Rattle.capi.proofs.Cases.{border}

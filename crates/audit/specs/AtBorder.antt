@@ -9,11 +9,11 @@ use Rattle.key.specs.declared.Key.{Key}
 use Rattle.key.specs.Keys.{freshKey, CameFromCalls}
 use Rattle.packets.specs.declared.Session.{Session}
 use Rattle.packets.specs.Sessions.{SessionFromCalls}
-use Rattle.capi.specs.declared.ConfigurationRecord.{ConfigurationRecord}
-use Rattle.capi.specs.declared.KeyRecord.{KeyRecord}
-use Rattle.capi.specs.declared.SessionRecord.{SessionRecord}
-use Rattle.capi.specs.Records.{keyRecord, isKey, sessionRecord, isSession}
-use Rattle.capi.specs.Border.{unsealed, noSession, configureAtBorder, sendAtBorder, wireAtBorder, receiveAtBorder, memoryAtBorder, checkAtBorder, openAtBorder, packetAtBorder, packetMemoryAtBorder, finishAtBorder, abandonAtBorder}
+use Rattle.records.specs.declared.ConfigurationRecord.{ConfigurationRecord}
+use Rattle.records.specs.declared.KeyRecord.{KeyRecord}
+use Rattle.records.specs.declared.SessionRecord.{SessionRecord}
+use Rattle.records.specs.Records.{keyRecord, isKey, sessionRecord, isSession, unsealed, noSession}
+use Rattle.capi.specs.Border.{configureAtBorder, sendAtBorder, wireAtBorder, receiveAtBorder, memoryAtBorder, checkAtBorder, openAtBorder, packetAtBorder, packetMemoryAtBorder, finishAtBorder, abandonAtBorder}
 
 -- an answer other than 0
 abbrev pub Refuses : ℕ → Type 0

@@ -7,11 +7,11 @@ use Rattle.guard.specs.Guards.{Bytes}
 use Rattle.key.specs.declared.Key.{Key}
 use Rattle.key.specs.Keys.{CameFromCalls}
 use Rattle.packets.specs.PacketRule.{Call, Follows}
-use Rattle.capi.specs.declared.SessionRecord.{SessionRecord}
+use Rattle.records.specs.declared.SessionRecord.{SessionRecord}
 use Rattle.capi.specs.declared.PackedRecord.{PackedRecord}
 use Rattle.capi.specs.declared.FinishedRecord.{FinishedRecord}
 use Rattle.capi.specs.declared.AbandonedRecord.{AbandonedRecord}
-use Rattle.capi.specs.Records.{keyRecord}
+use Rattle.records.specs.Records.{keyRecord}
 use Rattle.capi.specs.Border.{packedRecord, finishedRecord, abandonedRecord, openAtBorder, packetAtBorder, packetMemoryAtBorder, finishAtBorder, abandonAtBorder}
 use Rattle.audit.specs.AtBorder.{Refuses}
 

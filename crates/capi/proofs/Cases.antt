@@ -5,12 +5,12 @@ use Rattle.key.specs.declared.Key.{Key}
 use Rattle.key.specs.Keys.{CameFromCalls}
 use Rattle.packets.specs.declared.Session.{Session}
 use Rattle.packets.specs.Sessions.{SessionFromCalls}
-use Rattle.capi.specs.declared.KeyRecord.{KeyRecord}
-use Rattle.capi.specs.declared.SessionRecord.{SessionRecord}
-use Rattle.capi.specs.Records.{keyIn, keyRecord, isKey, sessionIn, sessionRecord, isSession}
+use Rattle.records.specs.declared.KeyRecord.{KeyRecord}
+use Rattle.records.specs.declared.SessionRecord.{SessionRecord}
+use Rattle.records.specs.Records.{keyIn, keyRecord, isKey, sessionIn, sessionRecord, isSession}
 use Rattle.capi.specs.Border.{configureAtBorder, sendAtBorder, wireAtBorder, receiveAtBorder, memoryAtBorder, checkAtBorder, openAtBorder, packetAtBorder, packetMemoryAtBorder, finishAtBorder, abandonAtBorder}
 use Rattle.capi.specs.Cases.{ActsAs, NoKey, SessionActsAs, NoSession, Border}
-use Rattle.capi.proofs.Laws.{key-round, session-round, key-told, key-back, key-passes, session-told, session-back, session-passes, no-key, no-session}
+use Rattle.records.proofs.Laws.{key-round, session-round, key-told, key-back, key-passes, session-told, session-back, session-passes, no-key, no-session}
 
 acts : (r : KeyRecord) → isKey r ≡ true → ActsAs r (keyIn r)
 unfolding configureAtBorder sendAtBorder wireAtBorder receiveAtBorder memoryAtBorder checkAtBorder openAtBorder

@@ -2,7 +2,6 @@
 use mathlib.Core.Bool.{cond}
 use mathlib.Core.List.{List}
 use Prim.Native.Nat.{ℕ}
-use lib.ListN.{replicate}
 use Rattle.key.specs.declared.Configured.{Configured}
 use Rattle.key.specs.declared.Checked.{Checked}
 use Rattle.key.specs.declared.Outcome.{Outcome}
@@ -16,10 +15,9 @@ use Rattle.packets.specs.declared.Packed.{Packed}
 use Rattle.packets.specs.declared.Finished.{Finished}
 use Rattle.packets.specs.declared.Abandoned.{Abandoned}
 use Rattle.packets.specs.Sessions.{opening, packing, memoryPacked, finishing, abandoning}
-use Rattle.capi.specs.declared.ConfigurationRecord.{ConfigurationRecord}
-use Rattle.capi.specs.declared.KeyRecord.{KeyRecord}
-use Rattle.capi.specs.declared.SideRecord.{SideRecord}
-use Rattle.capi.specs.declared.SessionRecord.{SessionRecord}
+use Rattle.records.specs.declared.ConfigurationRecord.{ConfigurationRecord}
+use Rattle.records.specs.declared.KeyRecord.{KeyRecord}
+use Rattle.records.specs.declared.SessionRecord.{SessionRecord}
 use Rattle.capi.specs.declared.ConfiguredRecord.{ConfiguredRecord}
 use Rattle.capi.specs.declared.TransferredRecord.{TransferredRecord}
 use Rattle.capi.specs.declared.CheckedRecord.{CheckedRecord}
@@ -27,7 +25,7 @@ use Rattle.capi.specs.declared.OpenedRecord.{OpenedRecord}
 use Rattle.capi.specs.declared.PackedRecord.{PackedRecord}
 use Rattle.capi.specs.declared.FinishedRecord.{FinishedRecord}
 use Rattle.capi.specs.declared.AbandonedRecord.{AbandonedRecord}
-use Rattle.capi.specs.Records.{noError, configurationIn, keyIn, keyRecord, isKey, sessionIn, sessionRecord, isSession}
+use Rattle.records.specs.Records.{configurationIn, keyIn, keyRecord, isKey, sessionIn, sessionRecord, isSession, unsealed, noSession}
 
 -- our own number for a record that is no key
 abbrev pub notKey : ℕ
@@ -50,16 +48,6 @@ transferredRecord t = record { key = keyRecord (t .key); answer = number (t .out
 -- check: it answers 0 besides
 abbrev pub checkedRecord : Checked → CheckedRecord
 checkedRecord c = record { key = keyRecord (c .key); answer = 0; kind = c .kind; actual = c .actual; expected = c .expected; offset = c .offset }
-
--- A record that is no key: it bears no seal.
-abbrev pub unsealed : KeyRecord → KeyRecord
-unsealed k = record { seal = 0; «memory_length» = k .«memory_length»; layout = k .layout; signature = k .signature; configured = k .configured; error = k .error; spare = k .spare }
-
--- A record that is no session: it bears no seal.
-abbrev pub noSession : KeyRecord → SessionRecord
-noSession k =
-    let side : SideRecord = record { index = 0; at = 0; odd = 0; guard = 0; spare = 0 } in
-    record { seal = 0; key = k; start = 0; length = 0; input = side; output = side; error = noError; held = replicate 8 0 }
 
 -- an open's session where it was accepted
 abbrev pub sessionOpened : Outcome → Opened → SessionRecord

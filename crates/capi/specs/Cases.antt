@@ -10,11 +10,11 @@ use Rattle.key.specs.Keys.{configuring, checking, CameFromCalls, Usable}
 use Rattle.transfer.specs.Transferring.{sending, wireSent, receiving, memoryReceived}
 use Rattle.packets.specs.declared.Session.{Session}
 use Rattle.packets.specs.Sessions.{opening, packing, memoryPacked, finishing, abandoning, SessionFromCalls, Underway}
-use Rattle.capi.specs.declared.ConfigurationRecord.{ConfigurationRecord}
-use Rattle.capi.specs.declared.KeyRecord.{KeyRecord}
-use Rattle.capi.specs.declared.SessionRecord.{SessionRecord}
-use Rattle.capi.specs.Records.{configurationIn, keyIn, keyRecord, isKey, sessionIn, sessionRecord, isSession}
-use Rattle.capi.specs.Border.{notKey, notSession, notTransferred, configuredRecord, transferredRecord, checkedRecord, unsealed, noSession, openedRecord, packedRecord, finishedRecord, abandonedRecord, configureAtBorder, sendAtBorder, wireAtBorder, receiveAtBorder, memoryAtBorder, checkAtBorder, openAtBorder, packetAtBorder, packetMemoryAtBorder, finishAtBorder, abandonAtBorder}
+use Rattle.records.specs.declared.ConfigurationRecord.{ConfigurationRecord}
+use Rattle.records.specs.declared.KeyRecord.{KeyRecord}
+use Rattle.records.specs.declared.SessionRecord.{SessionRecord}
+use Rattle.records.specs.Records.{configurationIn, keyIn, keyRecord, isKey, sessionIn, sessionRecord, isSession, unsealed, noSession}
+use Rattle.capi.specs.Border.{notKey, notSession, notTransferred, configuredRecord, transferredRecord, checkedRecord, openedRecord, packedRecord, finishedRecord, abandonedRecord, configureAtBorder, sendAtBorder, wireAtBorder, receiveAtBorder, memoryAtBorder, checkAtBorder, openAtBorder, packetAtBorder, packetMemoryAtBorder, finishAtBorder, abandonAtBorder}
 
 -- A key record stands for this key: each call gives what the call below gives for the key.
 pub record ActsAs (r : KeyRecord) (k : Key) : Type 0 where

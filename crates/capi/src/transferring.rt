@@ -2,20 +2,19 @@
 ghost use mathlib.Core.Path.{_≡_};
 ghost use lib.ListN.{length};
 ghost use Rattle.key.specs.Keys.{freshKey, withSlot};
-ghost use Rattle.capi.specs.Records.{keyIn, keyRecord};
+ghost use Rattle.records.specs.Records.{keyIn, keyRecord};
 ghost use Rattle.capi.specs.Border as border;
 use crate::CheckedRecord;
-use crate::ConfigurationRecord;
 use crate::ConfiguredRecord;
-use crate::KeyRecord;
 use crate::NOT_A_KEY;
 use crate::TransferredRecord;
-use crate::converting;
-use crate::converting::key_of;
-use crate::converting::key_record;
-use crate::converting::with_slot;
-use crate::sealing::is_key;
 use layout::LayoutOffset;
+use records::ConfigurationRecord;
+use records::KeyRecord;
+use records::is_key;
+use records::key_of;
+use records::key_record;
+use records::with_slot;
 use transfer::Transferred;
 
 // 01's number, as wide as every number of an answer.
@@ -44,7 +43,7 @@ pub extern "C" fn garoalva_configure(
         let c = key::configure(
             key_of(key),
             memory,
-            converting::configuration_of(configuration),
+            records::configuration_of(configuration),
         );
         let outcome = c.outcome;
         return ConfiguredRecord {

@@ -6,8 +6,8 @@ use crate::lines;
 use crate::lines::length;
 use crate::lines::number;
 use crate::settings;
-use capi::KeyRecord;
-use capi::SessionRecord;
+use records::KeyRecord;
+use records::SessionRecord;
 
 // What a caller goes on with.
 struct Held {

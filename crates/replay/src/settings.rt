@@ -2,12 +2,12 @@
 ghost use Prim.Native.Nat.{_<_};
 use crate::lines::length;
 use crate::lines::number;
-use capi::ConfigurationRecord;
-use capi::SignatureRecord;
 use field::Domain;
 use layout::Entry;
 use layout::Layout;
 use layout::MemoryOffset;
+use records::ConfigurationRecord;
+use records::SignatureRecord;
 
 fn number32(line: &[u8], i: usize) -> u32 {
     (number(line, i) % 4294967296) as u32

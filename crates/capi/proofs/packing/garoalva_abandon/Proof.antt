@@ -1,6 +1,6 @@
 use mathlib.Core.Path.{sym, _∙_}
 use Rattle.capi.specs.Border.{abandonAtBorder}
-use Rattle.capi.proofs.Laws.{session-told}
+use Rattle.records.proofs.Laws.{session-told}
 use borrow.Author.Needs.{needs}
 use Rattle.capi.proofs.packing.garoalva_abandon.Statement.{statement}
 use Rattle.capi.proofs.packing.garoalva_abandon.Tie as tie

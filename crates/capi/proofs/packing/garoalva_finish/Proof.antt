@@ -1,6 +1,6 @@
 use mathlib.Core.Path.{sym, _∙_}
 use Rattle.capi.specs.Border.{finishAtBorder}
-use Rattle.capi.proofs.Laws.{session-told}
+use Rattle.records.proofs.Laws.{session-told}
 use borrow.Author.Needs.{needs}
 use Rattle.capi.proofs.packing.garoalva_finish.Statement.{statement}
 use Rattle.capi.proofs.packing.garoalva_finish.Tie as tie

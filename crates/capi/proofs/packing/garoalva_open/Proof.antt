@@ -1,6 +1,6 @@
 use mathlib.Core.Path.{sym, _∙_}
 use Rattle.capi.specs.Border.{openAtBorder}
-use Rattle.capi.proofs.Laws.{key-told}
+use Rattle.records.proofs.Laws.{key-told}
 use borrow.Author.Needs.{needs}
 use Rattle.capi.proofs.packing.garoalva_open.Statement.{statement}
 use Rattle.capi.proofs.packing.garoalva_open.Tie as tie

@@ -1,9 +1,9 @@
 use mathlib.Core.Path.{_≡_, refl, ap, sym, _∙_}
 use mathlib.Core.Bool.{true}
-use Rattle.capi.specs.declared.SessionRecord.{SessionRecord}
-use Rattle.capi.specs.Records.{isSession}
+use Rattle.records.specs.declared.SessionRecord.{SessionRecord}
+use Rattle.records.specs.Records.{isSession}
 use Rattle.capi.specs.Border.{packetAtBorder, packetMemoryAtBorder}
-use Rattle.capi.proofs.Laws.{session-told, session-back, packed-session}
+use Rattle.records.proofs.Laws.{session-told, session-back, packed-session}
 use borrow.Author.Needs.{needs}
 use Rattle.capi.proofs.packing.garoalva_packet.Statement.{statement}
 use Rattle.capi.proofs.packing.garoalva_packet.Tie as tie

@@ -2,10 +2,6 @@ use mathlib.Core.Path.{_∙_}
 use borrow.Author.Needs.{needs}
 use Rattle.capi.proofs.packing.key_finished.Statement.{statement}
 use Rattle.capi.proofs.packing.key_finished.Tie as tie
-use Rattle.capi.proofs.packing.key_finished.Reads as reads
-use Rattle.capi.proofs.packing.key_finished.Lts as lts
-use Rattle.capi.proofs.converting.key_record.Reads as key-record-reads
-use Rattle.capi.proofs.converting.unsealed.Reads as unsealed-reads
 
 enum-told : tie.Need-enum-told
 enum-told c = search needs

@@ -1,8 +1,8 @@
 use mathlib.Core.Path.{_≡_, refl, sym, _∙_}
 use mathlib.Core.Bool.{true}
-use Rattle.capi.specs.Records.{isKey}
+use Rattle.records.specs.Records.{isKey}
 use Rattle.capi.specs.Border.{receiveAtBorder, memoryAtBorder}
-use Rattle.capi.proofs.Laws.{key-told, key-back, received-key}
+use Rattle.records.proofs.Laws.{key-told, key-back, received-key}
 use borrow.Author.Needs.{needs}
 use Rattle.capi.proofs.transferring.garoalva_receive.Statement.{statement}
 use Rattle.capi.proofs.transferring.garoalva_receive.Tie as tie
