@@ -133,7 +133,7 @@ packed-kept : (s : Session) (p : Progress) (before after : List ℕ) (o : Outcom
 packed-kept s p before after Done z = absurd (z refl)
 packed-kept s p before after (Refused r) z = (refl, refl, refl, refl)
 
-finished-kept : (s : Session) (o : Outcome) → let a = finishedRecord (finishedBy o s) in Refuses (a .answer) → (a .session ≡ sessionRecord s) × (a .key ≡ unsealed (keyRecord (s .key)))
+pub finished-kept : (s : Session) (o : Outcome) → let a = finishedRecord (finishedBy o s) in Refuses (a .answer) → (a .session ≡ sessionRecord s) × (a .key ≡ unsealed (keyRecord (s .key)))
 finished-kept s Done z = absurd (z refl)
 finished-kept s (Refused r) z = (refl, refl)
 

@@ -20,13 +20,13 @@ use Rattle.capi.specs.declared.OpenedRecord.{OpenedRecord}
 use Rattle.capi.specs.declared.PackedRecord.{PackedRecord}
 use Rattle.capi.specs.declared.FinishedRecord.{FinishedRecord}
 use Rattle.records.specs.Records.{keyRecord, sessionRecord}
-use Rattle.capi.specs.Border.{finishedRecord, openAtBorder}
+use Rattle.capi.specs.Border.{openAtBorder}
 use Rattle.capi.specs.Cases.{SessionActsAs}
 use Rattle.capi.proofs.Cases.{border}
 use Rattle.audit.specs.AtBorder.{Refuses}
 use Rattle.audit.specs.ListsAtBorder.{RecordCall, MadeAtBorder, asRecord, Demand3AtBorder}
 use Rattle.audit.proofs.Premise.{premise-kept}
-use Rattle.audit.proofs.AtBorder.{number-done}
+use Rattle.audit.proofs.AtBorder.{number-done, finished-kept}
 
 -- a refused outcome's refusal
 record Refusing (o : Outcome) : Type 0 where
@@ -46,20 +46,13 @@ packed-same s n bytes = go (packetAnswer s n (length bytes)) (fed (ruleOf s) (s 
     go Done p z = absurd (z refl)
     go (Refused r) p z = refl
 
--- an early finish's session, and as a record
+-- an early finish's session
 finished-same : (s : Session) → finishing s .session ≡ s
 finished-same s = go (finishAnswer s)
   where
     go : (o : Outcome) → finishedBy o s .session ≡ s
     go Done = refl
     go (Refused r) = refl
-
-finished-record : (s : Session) → Refuses (number (finishing s .outcome)) → finishedRecord (finishing s) .session ≡ sessionRecord s
-finished-record s = go (finishAnswer s)
-  where
-    go : (o : Outcome) → Refuses (number (finishedBy o s .outcome)) → finishedRecord (finishedBy o s) .session ≡ sessionRecord s
-    go Done z = absurd (z refl)
-    go (Refused r) z = refl
 
 -- The list of calls below.
 record Below (s : Session) (now : List ℕ) (calls : List RecordCall) : Type 0 where
@@ -107,7 +100,7 @@ below s c now r calls e (MadeAtBorder.early answer {calls = more} ea z rest) =
     let t = ea ∙ acts s c r e .finish in
     let n : Refuses (number (f .outcome)) = rw t at z in
     let w = refusing (f .outcome) n in
-    let l = below s c now (answer .session) more (ap (λ (a : FinishedRecord). a .session) t ∙ finished-record s n) rest in
+    let l = below s c now (answer .session) more (ap (λ (a : FinishedRecord). a .session) t ∙ finished-kept s (finishAnswer s) n .0) rest in
     record {
       below = Call.finish f ∷ l .below;
       made = Made.early f (w .by) refl (w .told) (made-on (finished-same s) (l .made));

@@ -56,6 +56,6 @@ border = record {
   sessionPasses = λ r h e. (session-acts r h, session-told r h e, session-back r h);
   keyFails = fails;
   sessionFails = session-fails;
-  noKey = no-key;
-  noSession = no-session;
+  unsealedFails = no-key;
+  noSessionFails = no-session;
 }

@@ -61,5 +61,5 @@ pub record Border : Type 0 where
   pub keyFails : (r : KeyRecord) → isKey r ≡ false → NoKey r
   pub sessionFails : (r : SessionRecord) → isSession r ≡ false → NoSession r
   -- as does what comes back where there is no key or no session
-  pub noKey : (k : KeyRecord) → isKey (unsealed k) ≡ false
-  pub noSession : (k : KeyRecord) → isSession (noSession k) ≡ false
+  pub unsealedFails : (k : KeyRecord) → isKey (unsealed k) ≡ false
+  pub noSessionFails : (k : KeyRecord) → isSession (noSession k) ≡ false

@@ -102,7 +102,7 @@ proper n = alike n (errorRecord (slotIn n))
 abbrev pub configuredOrEmpty : KeyRecord → Bool
 configuredOrEmpty r = eqb (r .configured) 1 || eqb (r .error .kind) 0
 
--- A record is a key if it bears the seal, turning it into a key and back gives it again, and the key is one to work by.
+-- A record is a key if it bears the seal, turning it into a key and back gives it again, and the key is one to work by, with no error if it was never configured.
 unfoldable pub isKey : KeyRecord → Bool
 isKey r = eqb (r .seal) keySeal && isFlag (r .configured) && eqb (r .signature .spare) 0 && eqb (r .spare) 0 && proper (r .error) && configuredOrEmpty r && usable (keyIn r)
 
