@@ -1,4 +1,5 @@
--- Copied bytes come out as they went in. Assumes nothing.
+-- These laws show that a field byte whose copy bit is set is output as it came in, and that both guard bytes are copied
+-- if the sides have one guard type and seed.
 use mathlib.Core.Path.{_≡_, refl, sym, ap, _∙_}
 use mathlib.Core.Bool.{Bool·beq, Bool, true, false, _&&_, cond}
 use mathlib.Core.List.{List, [], _∷_, _++_}
@@ -22,8 +23,8 @@ use Rattle.key.specs.declared.Key.{Key}
 use Rattle.key.specs.Streams.{streamLength}
 use Rattle.engine.specs.declared.Rule.{Rule}
 use Rattle.engine.specs.Streams.{blockSize, fieldSize, unitSize, inBlock, inUnit, outBlock, outUnit, inputBlock, inputField}
-use Rattle.engine.specs.Transfers.{joined, fieldBehind}
-use Rattle.engine.specs.Standing.{unitOut}
+use Rattle.engine.specs.Transfers.{joined, fieldAfter}
+use Rattle.engine.specs.Inner.Standing.{unitOut}
 use Rattle.engine.proofs.Joined.{joined-block}
 use Rattle.engine.proofs.Units.{unit-within}
 use Rattle.engine.proofs.Settling.{bytes-take}
@@ -41,7 +42,7 @@ either-small : (c : Bool) (x y : ℕ) → x < 256 → y < 256 → cond c x y < 2
 either-small true x y h l = h
 either-small false x y h l = l
 
--- byte k of an output field is copied where bit k of the mask is set
+-- Byte k of an output field is byte k of the input field if the copy mask contains it.
 copied-byte : (m : ℕ) (f g : ProtectionField) (k : ℕ) → k < 8 → getD (bytesIn m) k false ≡ true → getD (bytesOf (outputField m f g)) k 0 ≡ getD (bytesOf f) k 0
 unfolding outputField merged bytesOf
 copied-byte m f g k h c =
@@ -63,91 +64,98 @@ copied-byte m f g k h c =
 
 -- ---- bytes of the streams
 
-module _ (r : Rule) (count : ℕ) (g : Agree (r .input) (r .output) count) (stream : List ℕ) (l : length stream ≡ streamLength (r .input) count)
-    (b : Bytes stream) (s : signed (r .input) ≡ true) (t : signed (r .output) ≡ true) (j : ℕ) (h : j < count / inBlock r) (k : ℕ) (i : k < 8) where
+module _ (r : Rule) (dataLength : ℕ) (g : Agree (r .input) (r .output) dataLength) (stream : List ℕ) (l : length stream ≡ streamLength (r .input) dataLength)
+    (b : Bytes stream) (s : signed (r .input) ≡ true) (t : signed (r .output) ≡ true) (j : ℕ) (h : j < dataLength / inBlock r) (k : ℕ) (i : k < 8) where
+  -- An output field has eight bytes.
   eight′ : fieldSize (r .output) ≡ 8
   unfolding fieldSize
   eight′ = rw t
 
-  went : getD (outputOf r stream count) (j * outUnit r + outBlock r + k) 0 ≡ getD (fieldBehind r stream j (inputBlock r stream j)) k 0
+  -- The bytes after block j in the output stream are those of the rule's output field.
+  went : getD (outputOf r stream dataLength) (j * outUnit r + outBlock r + k) 0 ≡ getD (fieldAfter r stream j (inputBlock r stream j)) k 0
   went =
-      let n = count / inBlock r in
+      let n = dataLength / inBlock r in
       let units = joined _++_ [] (unitOut r stream) 0 n in
       let at : j * outUnit r + outBlock r + k ≡ j * outUnit r + (outBlock r + k) = omega arith in
-      let size : outBlock r ≡ length (inputBlock r stream j) = sym (block-size r count g stream l j h) in
-      let unit : take (outUnit r) (drop (j * outUnit r) units) ≡ unitOut r stream j = joined-block (unitOut r stream) (outUnit r) 0 n (unit-size r count g stream l) j h ∙ rw (zero-add j) in
-      rw (output-units r count g stream l, at)
+      let size : outBlock r ≡ length (inputBlock r stream j) = sym (block-size r dataLength g stream l j h) in
+      let unit : take (outUnit r) (drop (j * outUnit r) units) ≡ unitOut r stream j = joined-block (unitOut r stream) (outUnit r) 0 n (unit-size r dataLength g stream l) j h ∙ rw (zero-add j) in
+      rw (output-units r dataLength g stream l, at)
       (sym (getD-drop (j * outUnit r) units (outBlock r + k) 0) ∙ sym (getD-take (outUnit r) (drop (j * outUnit r) units) (outBlock r + k) 0 (omega (arith, eight′)))
       ∙ ap (λ (l : List ℕ). getD l (outBlock r + k) 0) unit ∙ ap (λ (m : ℕ). getD (unitOut r stream j) (m + k) 0) size
-      ∙ getD-append-add (inputBlock r stream j) (fieldBehind r stream j (inputBlock r stream j)) k 0)
+      ∙ getD-append-add (inputBlock r stream j) (fieldAfter r stream j (inputBlock r stream j)) k 0)
 
-  -- a copied byte of the output stream is that of the input stream
+  -- A copied field byte of the output stream is that of the input stream.
   pub copied-on : getD (bytesIn (r .«copy_mask»)) k false ≡ true
-      → getD (outputOf r stream count) (j * outUnit r + outBlock r + k) 0 ≡ getD stream (j * inUnit r + inBlock r + k) 0
-  unfolding fieldBehind
+      → getD (outputOf r stream dataLength) (j * outUnit r + outBlock r + k) 0 ≡ getD stream (j * inUnit r + inBlock r + k) 0
+  unfolding fieldAfter
   copied-on c = went ∙ rw t (copied-byte (r .«copy_mask») (fieldOf (inputField r stream j)) _ k i c ∙ found-bytes r stream b s j k i)
 
--- a signed domain with blocks of z bytes, and where byte k of the field behind block j stands in its stream
+-- The laws of this module are about a signed domain with blocks of z bytes.
 module _ (a b : Domain) (z : ℕ) (s : signed a ≡ true) (e : a .«block_size» ≡ z) where
+  -- The domain's block size is z.
   block-is : blockSize a b ≡ z
   unfolding blockSize
   block-is = rw s e
 
+  -- The domain's units have z + 8 bytes.
   unit-is : unitSize a b ≡ z + 8
   unfolding fieldSize
   unit-is = rw (block-is, s)
 
-  within : (count : ℕ) → Agree a b count → (j : ℕ) → j < count / z → (k : ℕ) → k < 8 → j * (z + 8) + z + k < streamLength a count
-  within count g j h k i =
-      let size : streamLength a count ≡ count / z * (z + 8) =
-      stream-units a b count g ∙ ap (λ (n : ℕ). count / n * unitSize a b) block-is ∙ ap (λ (u : ℕ). count / z * u) unit-is in
-      omega (arith, unit-within j (count / z) (z + 8) h)
+  -- Byte k of the field after block j lies in the domain's stream.
+  within : (dataLength : ℕ) → Agree a b dataLength → (j : ℕ) → j < dataLength / z → (k : ℕ) → k < 8 → j * (z + 8) + z + k < streamLength a dataLength
+  within dataLength g j h k i =
+      let size : streamLength a dataLength ≡ dataLength / z * (z + 8) =
+      stream-units a b dataLength g ∙ ap (λ (n : ℕ). dataLength / n * unitSize a b) block-is ∙ ap (λ (u : ℕ). dataLength / z * u) unit-is in
+      omega (arith, unit-within j (dataLength / z) (z + 8) h)
 
--- with blocks of one size it stands at the same place in both streams
-copied-at : (r : Rule) (count z : ℕ) → Agree (r .input) (r .output) count → (stream : List ℕ) → length stream ≡ streamLength (r .input) count → Bytes stream
+-- If both sides are signed and have one block size, a copied field byte is at the same offset of both streams.
+copied-at : (r : Rule) (dataLength z : ℕ) → Agree (r .input) (r .output) dataLength → (stream : List ℕ) → length stream ≡ streamLength (r .input) dataLength → Bytes stream
     → signed (r .input) ≡ true → signed (r .output) ≡ true → r .input .«block_size» ≡ z → r .output .«block_size» ≡ z
-    → (j : ℕ) → j < count / z → (k : ℕ) → k < 8 → getD (bytesIn (r .«copy_mask»)) k false ≡ true
-    → getD (outputOf r stream count) (j * (z + 8) + z + k) 0 ≡ getD stream (j * (z + 8) + z + k) 0
-copied-at r count z g stream l b s t y y′ j h k i c =
+    → (j : ℕ) → j < dataLength / z → (k : ℕ) → k < 8 → getD (bytesIn (r .«copy_mask»)) k false ≡ true
+    → getD (outputOf r stream dataLength) (j * (z + 8) + z + k) 0 ≡ getD stream (j * (z + 8) + z + k) 0
+copied-at r dataLength z g stream l b s t y y′ j h k i c =
     let u = unit-is (r .input) (r .output) z s y in
     let v = block-is (r .input) (r .output) z s y in
     let u′ = unit-is (r .output) (r .input) z t y′ in
     let v′ = block-is (r .output) (r .input) z t y′ in
     let here : j * outUnit r + outBlock r + k ≡ j * (z + 8) + z + k = omega (arith, ap (λ (n : ℕ). j * n) u′) in
     let there : j * inUnit r + inBlock r + k ≡ j * (z + 8) + z + k = omega (arith, ap (λ (n : ℕ). j * n) u) in
-    ap (λ (p : ℕ). getD (outputOf r stream count) p 0) (sym here) ∙ copied-on r count g stream l b s t j (rw v h) k i c ∙ ap (λ (p : ℕ). getD stream p 0) there
+    ap (λ (p : ℕ). getD (outputOf r stream dataLength) p 0) (sym here) ∙ copied-on r dataLength g stream l b s t j (rw v h) k i c ∙ ap (λ (p : ℕ). getD stream p 0) there
 
--- ---- of accepted transfers
+-- ---- accepted transfers
 
-module _ (k : Key) (memory wire : List ℕ) (x count : ℕ) where
+module _ (k : Key) (memory wire : List ℕ) (offset dataLength : ℕ) where
   abbrev z : ℕ
   z = k .signature .wire .«block_size»
 
-  pub send-copies : SendCopies k memory wire x count
+  -- An accepted send outputs each field byte whose copy bit is set as it is in memory.
+  pub send-copies : SendCopies k memory wire offset dataLength
   send-copies c e b s i h m j l =
-      let g = told k memory wire x count c e .agree in
+      let g = told k memory wire offset dataLength c e .agree in
       let y = g .alike (s .memory) (s .wire) in
-      let n = streamLength (k .signature .memory) count in
-      let ps = take n (drop x (places (k .layout))) in
+      let n = streamLength (k .signature .memory) dataLength in
+      let ps = take n (drop offset (places (k .layout))) in
       let p = fieldByte k j i in
-      let inside = within (k .signature .memory) (k .signature .wire) z (s .memory) y count g j l i h in
-      let inside′ = within (k .signature .wire) (k .signature .memory) z (s .wire) refl count (agree-back g) j l i h in
-      let size = memory-length k memory wire x count c e in
-      send-fills k memory wire x count c e .inside p inside′
-      ∙ copied-at (sendRule (k .signature)) count z g (memoryStream k memory x count) size (bytes-gathered memory ps b) (s .memory) (s .wire) y refl j l i h m
+      let inside = within (k .signature .memory) (k .signature .wire) z (s .memory) y dataLength g j l i h in
+      let inside′ = within (k .signature .wire) (k .signature .memory) z (s .wire) refl dataLength (agree-back g) j l i h in
+      let size = memory-length k memory wire offset dataLength c e in
+      send-fills k memory wire offset dataLength c e .inside p inside′
+      ∙ copied-at (sendRule (k .signature)) dataLength z g (memoryStream k memory offset dataLength) size (bytes-gathered memory ps b) (s .memory) (s .wire) y refl j l i h m
       ∙ gathered-at memory ps p (omega (arith, size, length-gathered memory ps))
-      ∙ ap (λ (q : ℕ). getD memory q 0) (getD-take n (drop x (places (k .layout))) p 0 inside ∙ getD-drop x (places (k .layout)) p 0)
+      ∙ ap (λ (q : ℕ). getD memory q 0) (getD-take n (drop offset (places (k .layout))) p 0 inside ∙ getD-drop offset (places (k .layout)) p 0)
 
-  pub receive-copies : ReceiveCopies k memory wire x count
+  -- An accepted receive outputs each field byte whose copy bit is set as it is on the wire.
+  pub receive-copies : ReceiveCopies k memory wire offset dataLength
   receive-copies c e b s i h m j l =
-      let g = told k memory wire x count c e .agree in
+      let g = told k memory wire offset dataLength c e .agree in
       let y = g .alike (s .memory) (s .wire) in
-      let n = streamLength (k .signature .wire) count in
+      let n = streamLength (k .signature .wire) dataLength in
       let p = fieldByte k j i in
-      let inside = within (k .signature .memory) (k .signature .wire) z (s .memory) y count g j l i h in
-      let inside′ = within (k .signature .wire) (k .signature .memory) z (s .wire) refl count (agree-back g) j l i h in
-      receive-fills k memory wire x count c e .inside p inside
-      ∙ copied-at (receiveRule (k .signature)) count z (agree-back g) (wireStream k wire count) (wire-length k memory wire x count c e) (bytes-take n wire b)
+      let inside = within (k .signature .memory) (k .signature .wire) z (s .memory) y dataLength g j l i h in
+      let inside′ = within (k .signature .wire) (k .signature .memory) z (s .wire) refl dataLength (agree-back g) j l i h in
+      receive-fills k memory wire offset dataLength c e .inside p inside
+      ∙ copied-at (receiveRule (k .signature)) dataLength z (agree-back g) (wireStream k wire dataLength) (wire-length k memory wire offset dataLength c e) (bytes-take n wire b)
       (s .wire) (s .memory) refl y j l i h m
       ∙ getD-take n wire p 0 inside′
 
@@ -157,7 +165,7 @@ cond-small : (b : Bool) (n : ℕ) → cond b n 0 ≤ n
 cond-small true n = omega arith
 cond-small false n = omega arith
 
--- with one guard type and seed, the copy mask in force has both guard bits
+-- With attribute flags 0, and one guard type and seed on both sides, the copy mask in force contains both guard bytes.
 guard-bits : (attributes mask : ℕ) (a b : Domain) → attributes ≡ 0 → signed a ≡ true → signed b ≡ true → a .«guard_type» ≡ b .«guard_type» → a .seed ≡ b .seed
     → (i : ℕ) → i < 2 → getD (bytesIn (copyMask attributes mask a b)) i false ≡ true
 unfolding copyMask agreed
@@ -172,13 +180,15 @@ guard-bits attributes mask a b f s t g e i h =
     bits m (suc zero) h l n = eq-eqb (m / 64 % 2) 1 (omega arith)
     bits m (suc (suc i)) h l n = absurd (omega arith)
 
-module _ (k : Key) (memory wire : List ℕ) (x count : ℕ) where
-  pub send-keeps-guard : SendKeepsGuard k memory wire x count
+module _ (k : Key) (memory wire : List ℕ) (offset dataLength : ℕ) where
+  -- With one guard type and seed, an accepted send outputs both guard bytes as they are in memory.
+  pub send-keeps-guard : SendKeepsGuard k memory wire offset dataLength
   send-keeps-guard c e b s o i h =
-      send-copies k memory wire x count c e b s i (omega arith)
-      (guard-bits (k .signature .«attribute_flags») (k .signature .«copy_mask») (k .signature .memory) (k .signature .wire) (o .flag) (s .memory) (s .wire) (o .kind) (o .seed) i h)
+      send-copies k memory wire offset dataLength c e b s i (omega arith)
+      (guard-bits (k .signature .«attribute_flags») (k .signature .«copy_mask») (k .signature .memory) (k .signature .wire) (o .flag) (s .memory) (s .wire) (o .type) (o .seed) i h)
 
-  pub receive-keeps-guard : ReceiveKeepsGuard k memory wire x count
+  -- With one guard type and seed, an accepted receive outputs both guard bytes as they are on the wire.
+  pub receive-keeps-guard : ReceiveKeepsGuard k memory wire offset dataLength
   receive-keeps-guard c e b s o i h =
-      receive-copies k memory wire x count c e b s i (omega arith)
-      (guard-bits (k .signature .«attribute_flags») (k .signature .«copy_mask») (k .signature .wire) (k .signature .memory) (o .flag) (s .wire) (s .memory) (sym (o .kind)) (sym (o .seed)) i h)
+      receive-copies k memory wire offset dataLength c e b s i (omega arith)
+      (guard-bits (k .signature .«attribute_flags») (k .signature .«copy_mask») (k .signature .wire) (k .signature .memory) (o .flag) (s .wire) (s .memory) (sym (o .type)) (sym (o .seed)) i h)

@@ -1,4 +1,5 @@
--- Demand 2, errors: the rule's first error is that of the first bad block and of its first bad part. Assumes nothing.
+-- These laws prove demand 2 for errors: the transfer rule's first error is that of the first bad block and of its first
+-- bad tag.
 use mathlib.Core.Path.{_≡_, refl, sym, ap, _∙_}
 use mathlib.Core.Bool.{Bool, true, false, _&&_, _||_, not, cond}
 use mathlib.Core.List.{List, [], _∷_}
@@ -6,55 +7,59 @@ use Prim.Native.Nat.{ℕ, zero, suc, _+_, _*_, _/_, _%_, _≤_, _<_}
 use native.Mathlib.Nat.{div-eq-of-lt, mod-lt, mul-add-div-right}
 use native.Mathlib.Omega.{arith}
 use lib.Arith.{mod-mul}
-use lib.Dec.{eqb, ltb}
+use lib.Dec.{eqb, ltb, leb}
 use lib.ListN.{getD}
-use borrow.Author.Tests.{not-true, not-false, eqb-true, eqb-false, lt-ltb, le-ltb, ltb-true, ltb-false}
+use borrow.Author.Tests.{le-leb, lt-leb, not-true, not-false, eqb-true, eqb-false, lt-ltb, le-ltb, ltb-true, ltb-false}
 use Rattle.field.specs.declared.ProtectionField.{ProtectionField}
 use Rattle.field.specs.declared.Judgement.{Judgement}
 use Rattle.field.specs.declared.Judgement.the-variants.{Good, Bad}
-use Rattle.field.specs.declared.Part.{Part}
-use Rattle.field.specs.declared.Part.the-variants.{Guard, Application, Reference}
+use Rattle.field.specs.declared.Tag.{Tag}
+use Rattle.field.specs.declared.Tag.the-variants.{Guard, Application, Reference}
 use Rattle.field.specs.Tests.{bit}
 use Rattle.field.specs.Domains.{signed}
 use Rattle.field.specs.Fields.{bytesOf, bytesIn}
-use Rattle.field.specs.Judging.{escaped, checked, differs, digit, maskOf, differing, mismatch, firstBad, judged}
+use Rattle.field.specs.Judging.{escaped, checkedMask, differs, digit, maskOf, differing, mismatch, firstBad, judged}
 use Rattle.field.proofs.Laws.{digit-small}
-use Rattle.key.specs.declared.Error.{Error}
+use Rattle.slot.specs.declared.Error.{Error}
 use Rattle.key.specs.declared.Key.{Key}
-use Rattle.key.specs.declared.Slot.{Slot}
-use Rattle.key.specs.declared.Slot.the-variants.{Empty, Holding}
-use Rattle.key.specs.Keys.{keep}
+use Rattle.slot.specs.declared.Slot.{Slot}
+use Rattle.slot.specs.declared.Slot.the-variants.{Empty, Holding}
+use Rattle.slot.specs.Slots.{keep}
 use Rattle.engine.specs.declared.Rule.{Rule}
 use Rattle.engine.specs.Streams.{inUnit, inputBlock}
 use Rattle.engine.specs.Transfers.{joined, guardBy, slotOf, errorBy, errorOf, firstError}
 use Rattle.engine.proofs.Units.{errors-last}
-use Rattle.transfer.specs.Transferring.{sending, receiving}
-use Rattle.audit.specs.Errors.{found, right, GoodByte, BadByte, GoodBlock, first, behind, valueOf, FirstBadPart, FirstBadBlock, Records, SendRecords, ReceiveRecords}
+use Rattle.transfer.specs.Transferring.{sendResult, receiveResult}
+use Rattle.audit.specs.Errors.{found, computed, GoodByte, BadByte, GoodBlock, first, after, valueOf, FirstBadTag, FirstBadBlock, HoldsFirstError, SendFindsFirstError, ReceiveFindsFirstError}
 
--- ---- a set of eight bytes as a mask: which of its parts is not empty
+-- ---- a set of eight bytes as a mask: which tags have a byte in it
 
--- whether a number is above n, whose first two digits are a and b, and whose other digits stay within n
-above : (n : ℕ) (a b : Bool) (rest : ℕ) → rest ≤ n → ltb n (digit a * (2 * (n + 1)) + digit b * (n + 1) + rest) ≡ a || b
-above n true b rest h = lt-ltb n (digit true * (2 * (n + 1)) + digit b * (n + 1) + rest) (omega arith)
-above n false true rest h = lt-ltb n (digit false * (2 * (n + 1)) + digit true * (n + 1) + rest) (omega arith)
-above n false false rest h = le-ltb n (digit false * (2 * (n + 1)) + digit false * (n + 1) + rest) (omega arith)
+-- A number whose first two binary digits are a and b, and whose other digits are less than n, is at least n if and only
+-- if a or b is set.
+above : (n : ℕ) (a b : Bool) (rest : ℕ) → rest < n → leb n (digit a * (2 * n) + digit b * n + rest) ≡ a || b
+above n true b rest h = le-leb n (digit true * (2 * n) + digit b * n + rest) (omega arith)
+above n false true rest h = le-leb n (digit false * (2 * n) + digit true * n + rest) (omega arith)
+above n false false rest h = lt-leb n (digit false * (2 * n) + digit false * n + rest) (omega arith)
 
 module _ (a b c d e f g h : Bool) where
+  -- The number `set` is the mask of the bytes whose flags are a to h.
   set : ℕ
   unfolding maskOf
   set = maskOf 0 (a ∷ b ∷ c ∷ d ∷ e ∷ f ∷ g ∷ h ∷ [])
 
+  -- The number `low` is the value of the four bits of the reference tag.
   low : ℕ
   low = digit e * 8 + digit f * 4 + (digit g * 2 + digit h)
 
+  -- The number `middle` is the value of the bits of the application tag and the reference tag.
   middle : ℕ
   middle = digit c * 32 + digit d * 16 + low
 
-  low-small : low ≤ 15
+  low-small : low < 16
   unfolding low
   low-small = omega (arith, digit-small e, digit-small f, digit-small g, digit-small h)
 
-  middle-small : middle ≤ 63
+  middle-small : middle < 64
   unfolding middle
   middle-small = omega (arith, low-small, digit-small c, digit-small d)
 
@@ -62,19 +67,23 @@ module _ (a b c d e f g h : Bool) where
   unfolding set middle low
   set-is = omega arith
 
-  guard-set : ltb 63 set ≡ a || b
-  guard-set = rw set-is (above 63 a b middle middle-small)
+  -- The mask is at least 64 if and only if the set contains a guard byte.
+  guard-set : leb 64 set ≡ a || b
+  guard-set = rw set-is (above 64 a b middle middle-small)
 
-  application-set : ltb 15 (set % 64) ≡ c || d
+  -- The mask without its guard bits is at least 16 if and only if the set contains a byte of the application tag.
+  application-set : leb 16 (set % 64) ≡ c || d
   unfolding middle
   application-set =
       let m : set % 64 ≡ middle = omega (arith, set-is, middle-small) in
-      rw m (above 15 c d low low-small)
+      rw m (above 16 c d low low-small)
 
+  -- The low four bits of the mask are those of the reference tag.
   low-left : set % 16 ≡ low
   unfolding middle
   low-left = omega (arith, set-is, low-small)
 
+  -- The low four bits of the mask are not 0 if and only if the set contains a byte of the reference tag.
   reference-set : ltb 0 (set % 16) ≡ (e || f) || (g || h)
   unfolding low
   reference-set = rw low-left (go e f g h)
@@ -86,16 +95,18 @@ module _ (a b c d e f g h : Bool) where
       go false false false true = refl
       go false false false false = refl
 
--- ---- the first bad part, by a test for each byte
+-- ---- the first bad tag, by a test for each byte
 
+-- A judgement fits a test of each byte if it is Good and no byte is bad, or if it names the first tag with a bad byte.
 data Told (bad : ℕ → Bool) (rule seen : ProtectionField) : Judgement → Type 0 where
   all-good : ((k : ℕ) → k < 8 → bad k ≡ false) → Told bad rule seen Good
-  part-bad : (p : Part) (k : ℕ) → first p ≤ k → k < behind p → bad k ≡ true → ((j : ℕ) → j < first p → bad j ≡ false) → Told bad rule seen (Bad (mismatch p rule seen))
+  tag-bad : (p : Tag) (k : ℕ) → first p ≤ k → k < after p → bad k ≡ true → ((j : ℕ) → j < first p → bad j ≡ false) → Told bad rule seen (Bad (mismatch p rule seen))
 
 module _ (bad : ℕ → Bool) where
   none-bad : (k : ℕ) → k < 0 → bad k ≡ false
   none-bad k h = absurd (omega arith)
 
+  -- If neither byte n nor any byte before it is bad, no byte before byte n + 1 is bad.
   one-more : (n : ℕ) → ((k : ℕ) → k < n → bad k ≡ false) → bad n ≡ false → (k : ℕ) → k < n + 1 → bad k ≡ false
   one-more n t p k h = go (ltb k n) refl
     where
@@ -110,31 +121,33 @@ module _ (bad : ℕ → Bool) where
   four p q r s = one-more 3 (one-more 2 (two p q) r) s
 
   module _ (rule seen : ProtectionField) where
+    -- The judgement that is chosen by the tests of the eight bytes fits them.
     by-bytes : (a b c d e f g h : Bool) → bad 0 ≡ a → bad 1 ≡ b → bad 2 ≡ c → bad 3 ≡ d → bad 4 ≡ e → bad 5 ≡ f → bad 6 ≡ g → bad 7 ≡ h
         → Told bad rule seen
         (cond (a || b) (Bad (mismatch Guard rule seen))
         (cond (c || d) (Bad (mismatch Application rule seen))
         (cond ((e || f) || (g || h)) (Bad (mismatch Reference rule seen)) Good)))
-    by-bytes true b c d e f g h i j k l m n o p = part-bad Guard 0 (omega arith) (omega arith) i none-bad
-    by-bytes false true c d e f g h i j k l m n o p = part-bad Guard 1 (omega arith) (omega arith) j none-bad
-    by-bytes false false true d e f g h i j k l m n o p = part-bad Application 2 (omega arith) (omega arith) k (two i j)
-    by-bytes false false false true e f g h i j k l m n o p = part-bad Application 3 (omega arith) (omega arith) l (two i j)
-    by-bytes false false false false true f g h i j k l m n o p = part-bad Reference 4 (omega arith) (omega arith) m (four i j k l)
-    by-bytes false false false false false true g h i j k l m n o p = part-bad Reference 5 (omega arith) (omega arith) n (four i j k l)
-    by-bytes false false false false false false true h i j k l m n o p = part-bad Reference 6 (omega arith) (omega arith) o (four i j k l)
-    by-bytes false false false false false false false true i j k l m n o p = part-bad Reference 7 (omega arith) (omega arith) p (four i j k l)
+    by-bytes true b c d e f g h i j k l m n o p = tag-bad Guard 0 (omega arith) (omega arith) i none-bad
+    by-bytes false true c d e f g h i j k l m n o p = tag-bad Guard 1 (omega arith) (omega arith) j none-bad
+    by-bytes false false true d e f g h i j k l m n o p = tag-bad Application 2 (omega arith) (omega arith) k (two i j)
+    by-bytes false false false true e f g h i j k l m n o p = tag-bad Application 3 (omega arith) (omega arith) l (two i j)
+    by-bytes false false false false true f g h i j k l m n o p = tag-bad Reference 4 (omega arith) (omega arith) m (four i j k l)
+    by-bytes false false false false false true g h i j k l m n o p = tag-bad Reference 5 (omega arith) (omega arith) n (four i j k l)
+    by-bytes false false false false false false true h i j k l m n o p = tag-bad Reference 6 (omega arith) (omega arith) o (four i j k l)
+    by-bytes false false false false false false false true i j k l m n o p = tag-bad Reference 7 (omega arith) (omega arith) p (four i j k l)
     by-bytes false false false false false false false false i j k l m n o p =
         all-good (one-more 7 (one-more 6 (one-more 5 (one-more 4 (four i j k l) m) n) o) p)
 
+    -- The judgement `firstBad` of the set of bad bytes fits the test of each byte.
     told : Told bad rule seen (firstBad (maskOf 0 (bad 0 ∷ bad 1 ∷ bad 2 ∷ bad 3 ∷ bad 4 ∷ bad 5 ∷ bad 6 ∷ bad 7 ∷ [])) rule seen)
     unfolding firstBad set
     told =
         rw (guard-set (bad 0) (bad 1) (bad 2) (bad 3) (bad 4) (bad 5) (bad 6) (bad 7), application-set (bad 0) (bad 1) (bad 2) (bad 3) (bad 4) (bad 5) (bad 6) (bad 7), reference-set (bad 0) (bad 1) (bad 2) (bad 3) (bad 4) (bad 5) (bad 6) (bad 7))
         (by-bytes _ _ _ _ _ _ _ _ refl refl refl refl refl refl refl refl)
 
--- ---- of a block's field
+-- ---- the field of a block
 
--- what is left of a number by j times 2 times a place keeps the digit at that place
+-- The remainder of a number by j * 2 * place has the same binary digit at that place as the number.
 kept : (j place m : ℕ) → 0 < j → 0 < place → m % (j * 2 * place) / place % 2 ≡ m / place % 2
 kept j place m h p =
     let d : m % place / place ≡ 0 = div-eq-of-lt (mod-lt m p) in
@@ -143,7 +156,7 @@ kept j place m h p =
     let low : m / place % (j * 2) ≡ (m / place / 2 % j) * 2 + m / place % 2 = mod-mul (m / place) {m = j} {c = 2} h (omega arith) in
     rw (top, low) (omega arith)
 
--- the checked bytes as a mask: bits 7 and 6 fall out of an escaped block's
+-- The checked bytes are those of the check mask, without an escaped block's guard bytes.
 checked-bytes : (e : Bool) (m : ℕ) → bytesIn (cond e (m % 64) m)
     ≡ (not (e && true) && bit m 128) ∷ (not (e && true) && bit m 64) ∷ (not (e && false) && bit m 32) ∷ (not (e && false) && bit m 16)
     ∷ (not (e && false) && bit m 8) ∷ (not (e && false) && bit m 4) ∷ (not (e && false) && bit m 2) ∷ (not (e && false) && bit m 1) ∷ []
@@ -156,12 +169,13 @@ checked-bytes true m =
 apart : _≡_ {A = Bool} false true → ⊥
 apart h = let z : _≡_ {A = ℕ} 0 1 = cc in omega arith
 
--- the test of a byte
+-- A byte that is checked and that the test does not find bad is right.
 not-bad : (e m t : Bool) (x y : ℕ) → (not (e && t) && m) && not (eqb x y) ≡ false → m ≡ true → (e ≡ true → t ≡ true → ⊥) → x ≡ y
 not-bad true m true x y h p q = absurd (q refl refl)
 not-bad true m false x y h p q = eqb-true x y (not-false (eqb x y) (rw p at h))
 not-bad false m t x y h p q = eqb-true x y (not-false (eqb x y) (rw p at h))
 
+-- A byte that the test finds bad is checked and wrong.
 bad-is : (e m t : Bool) (x y : ℕ) → (not (e && t) && m) && not (eqb x y) ≡ true → (m ≡ true) × (e ≡ true → t ≡ true → ⊥) × (x ≡ y → ⊥)
 bad-is true true false x y h = (refl, (λ p q. apart q), eqb-false x y (not-true (eqb x y) h))
 bad-is false true t x y h = (refl, (λ p q. apart p), eqb-false x y (not-true (eqb x y) h))
@@ -170,93 +184,100 @@ bad-is true false false x y h = absurd (apart h)
 bad-is false false t x y h = absurd (apart h)
 
 module _ (r : Rule) (stream : List ℕ) (i : ℕ) where
-  -- byte k is checked, and wrong
+  -- The test `badByte k` is true if byte k is checked and wrong.
   badByte : ℕ → Bool
   badByte k =
       (not (escaped (r .input) (found r stream i) && ltb k 2) && getD (bytesIn (r .«check_mask»)) k false) &&
-      not (eqb (getD (bytesOf (found r stream i)) k 0) (getD (bytesOf (right r stream i)) k 0))
+      not (eqb (getD (bytesOf (found r stream i)) k 0) (getD (bytesOf (computed r stream i)) k 0))
 
-  judged-bytes : differs (bytesIn (checked (r .input) (r .«check_mask») (found r stream i))) (bytesOf (found r stream i)) (bytesOf (right r stream i))
+  -- The checked bytes that differ are the bad bytes.
+  judged-bytes : differs (bytesIn (checkedMask (r .input) (r .«check_mask») (found r stream i))) (bytesOf (found r stream i)) (bytesOf (computed r stream i))
       ≡ badByte 0 ∷ badByte 1 ∷ badByte 2 ∷ badByte 3 ∷ badByte 4 ∷ badByte 5 ∷ badByte 6 ∷ badByte 7 ∷ []
-  unfolding differs badByte checked bytesOf
+  unfolding differs badByte checkedMask bytesOf
   judged-bytes =
-      ap (λ (l : List Bool). differs l (bytesOf (found r stream i)) (bytesOf (right r stream i))) (checked-bytes (escaped (r .input) (found r stream i)) (r .«check_mask»))
+      ap (λ (l : List Bool). differs l (bytesOf (found r stream i)) (bytesOf (computed r stream i))) (checked-bytes (escaped (r .input) (found r stream i)) (r .«check_mask»))
 
-  judgement-told : Told badByte (right r stream i) (found r stream i) (judged (r .input) (r .«check_mask») i (guardBy (r .input) (inputBlock r stream i)) (found r stream i))
+  -- The rule's judgement of a block fits the test of each byte.
+  judgement-told : Told badByte (computed r stream i) (found r stream i) (judged (r .input) (r .«check_mask») i (guardBy (r .input) (inputBlock r stream i)) (found r stream i))
   unfolding judged differing
-  judgement-told = rw judged-bytes (told badByte (right r stream i) (found r stream i))
+  judgement-told = rw judged-bytes (told badByte (computed r stream i) (found r stream i))
 
+  -- A byte for which `badByte` is false is a `GoodByte`.
   good-byte : (k : ℕ) → badByte k ≡ false → GoodByte r stream i k
   unfolding badByte
   good-byte k h c = not-bad (escaped (r .input) (found r stream i)) (getD (bytesIn (r .«check_mask»)) k false) (ltb k 2) _ _ h (c .masked) (λ e t. c .unescaped e (ltb-true k 2 t))
 
+  -- A byte for which `badByte` is true is a `BadByte`.
   bad-byte : (k : ℕ) → badByte k ≡ true → BadByte r stream i k
   unfolding badByte
   bad-byte k h =
       let b = bad-is (escaped (r .input) (found r stream i)) (getD (bytesIn (r .«check_mask»)) k false) (ltb k 2) _ _ h in
       record { checked = record { masked = b .0; unescaped = λ e l. b .1 e (lt-ltb k 2 l) }; wrong = b .2 }
 
-  -- ---- of the slot
+  -- ---- the slot after a block
 
-  -- What a slot says of one block.
+  -- An empty slot says that the block is good, and a slot that holds an error says which tag is the first bad one.
   abbrev Says : Slot → Type 0
   Says Empty = signed (r .input) ≡ true → GoodBlock r stream i
-  Says (Holding e) = (signed (r .input) ≡ true) × FirstBadPart r stream i (e .part) × (e .actual ≡ valueOf (e .part) (right r stream i))
-      × (e .expected ≡ valueOf (e .part) (found r stream i)) × (e .offset ≡ i * inUnit r)
+  Says (Holding e) = (signed (r .input) ≡ true) × FirstBadTag r stream i (e .mismatch .tag) × (e .mismatch .actual ≡ valueOf (e .mismatch .tag) (computed r stream i))
+      × (e .mismatch .expected ≡ valueOf (e .mismatch .tag) (found r stream i)) × (e .offset ≡ i * inUnit r)
 
+  -- What the slot of a block says is true.
   error-says : Says (errorOf r stream i)
   unfolding errorBy slotOf
   error-says = go (signed (r .input)) refl
     where
-      part-says : signed (r .input) ≡ true → (p : Part) → FirstBadPart r stream i p → Says (slotOf (i * inUnit r) (Bad (mismatch p (right r stream i) (found r stream i))))
-      part-says s Guard f = (s, f, refl, refl, refl)
-      part-says s Application f = (s, f, refl, refl, refl)
-      part-says s Reference f = (s, f, refl, refl, refl)
+      tag-says : signed (r .input) ≡ true → (p : Tag) → FirstBadTag r stream i p → Says (slotOf (i * inUnit r) (Bad (mismatch p (computed r stream i) (found r stream i))))
+      tag-says s Guard f = (s, f, refl, refl, refl)
+      tag-says s Application f = (s, f, refl, refl, refl)
+      tag-says s Reference f = (s, f, refl, refl, refl)
 
-      judgement-says : signed (r .input) ≡ true → {j : Judgement} → Told badByte (right r stream i) (found r stream i) j → Says (slotOf (i * inUnit r) j)
+      judgement-says : signed (r .input) ≡ true → {j : Judgement} → Told badByte (computed r stream i) (found r stream i) j → Says (slotOf (i * inUnit r) j)
       judgement-says s (all-good h) = λ t k l. good-byte k (h k l)
-      judgement-says s (part-bad p k from to h before) =
-          part-says s p (record { byte = k; from = from; to = to; bad = bad-byte k h; before = λ j l. good-byte j (before j l) })
+      judgement-says s (tag-bad p k from to h before) =
+          tag-says s p (record { byte = k; from = from; to = to; bad = bad-byte k h; before = λ j l. good-byte j (before j l) })
 
       go : (t : Bool) → signed (r .input) ≡ t → Says (cond t (slotOf (i * inUnit r) (judged (r .input) (r .«check_mask») i (guardBy (r .input) (inputBlock r stream i)) (found r stream i))) Empty)
       go true s = judgement-says s judgement-told
       go false s = λ t. absurd (apart (sym s ∙ t))
 
--- ---- of the first n blocks
+-- ---- the slot after n blocks
 
 module _ (r : Rule) (stream : List ℕ) where
-  -- What a slot says of n blocks.
+  -- An empty slot says that the first n blocks are good, and a slot that holds an error says which is the first bad
+  -- one.
   abbrev SaysAll : ℕ → Slot → Type 0
   SaysAll n Empty = signed (r .input) ≡ true → (i : ℕ) → i < n → GoodBlock r stream i
   SaysAll n (Holding e) = (signed (r .input) ≡ true) × FirstBadBlock r stream n e
 
+  -- What the slot of the first n blocks says is true.
   first-says : (n : ℕ) → SaysAll n (firstError r stream n)
   first-says zero = unfold firstError joined in (λ s i h. absurd (omega arith))
   first-says (suc n) = rw (errors-last r stream n) (go (firstError r stream n) (errorOf r stream n) (first-says n) (error-says r stream n))
     where
       go : (a b : Slot) → SaysAll n a → Says r stream n b → SaysAll (suc n) (keep a b)
-      go (Holding e) b (s, f) h = (s, record { block = f .block; among = omega (arith, f .among); before = f .before; part = f .part; actual = f .actual; expected = f .expected; offset = f .offset })
-      go Empty (Holding e) all (s, p, a, x, o) = (s, record { block = n; among = omega arith; before = all s; part = p; actual = a; expected = x; offset = o })
+      go (Holding e) b (s, f) h = (s, record { block = f .block; among = omega (arith, f .among); before = f .before; tag = f .tag; actual = f .actual; expected = f .expected; offset = f .offset })
+      go Empty (Holding e) all (s, p, a, x, o) = (s, record { block = n; among = omega arith; before = all s; tag = p; actual = a; expected = x; offset = o })
       go Empty Empty all h = λ s i l. one-more-block s i l (ltb i n) refl
         where
           one-more-block : signed (r .input) ≡ true → (i : ℕ) → i < suc n → (b : Bool) → ltb i n ≡ b → GoodBlock r stream i
           one-more-block s i l true e = all s i (ltb-true i n e)
           one-more-block s i l false e = let same : i ≡ n = omega (arith, ltb-false i n e) in rw same (h s)
 
-  -- Demand 2, errors.
-  pub errors-recorded : (n : ℕ) → Records r stream n (firstError r stream n)
+  -- Demand 2 holds for errors: the transfer rule's first error is that of the first bad block.
+  pub errors-recorded : (n : ℕ) → HoldsFirstError r stream n (firstError r stream n)
   errors-recorded n = go (firstError r stream n) (first-says n)
     where
-      -- a bad block among them is not good
+      -- If one of n blocks is bad, not all of them are good.
       never : (e : Error) → FirstBadBlock r stream n e → ((i : ℕ) → i < n → GoodBlock r stream i) → ⊥
-      never e f all = let p = f .part in p .bad .wrong (all (f .block) (f .among) (p .byte) (within (e .part) (p .byte) (p .to)) (p .bad .checked))
+      never e f all = let p = f .tag in p .bad .wrong (all (f .block) (f .among) (p .byte) (within (e .mismatch .tag) (p .byte) (p .to)) (p .bad .checked))
         where
-          within : (p : Part) (k : ℕ) → k < behind p → k < 8
+          within : (p : Tag) (k : ℕ) → k < after p → k < 8
           within Guard k h = omega arith
           within Application k h = omega arith
           within Reference k h = h
 
-      go : (a : Slot) → SaysAll n a → Records r stream n a
+      go : (a : Slot) → SaysAll n a → HoldsFirstError r stream n a
       go Empty h = record { unsigned = λ s. refl; none = λ s. ((λ q. h s), (λ q. refl)); some = λ s e q. let z : _≡_ {A = ℕ} 0 1 = cc in absurd (omega arith) }
       go (Holding e) (s, f) = record {
         unsigned = λ t. absurd (apart (sym t ∙ s));
@@ -264,12 +285,14 @@ module _ (r : Rule) (stream : List ℕ) where
         some = λ t e′ q. let same : e ≡ e′ = cc in rw same at f;
       }
 
--- ---- of an accepted transfer from an empty slot
+-- ---- accepted transfers from an empty slot
 
-pub send-records : (k : Key) (memory wire : List ℕ) (x count : ℕ) → SendRecords k memory wire x count
-unfolding sending
-send-records k memory wire x count s e = rw (e, s) (errors-recorded _ _ _)
+-- An accepted send from an empty slot records the first error.
+pub send-records : (k : Key) (memory wire : List ℕ) (offset dataLength : ℕ) → SendFindsFirstError k memory wire offset dataLength
+unfolding sendResult
+send-records k memory wire offset dataLength s e = rw (e, s) (errors-recorded _ _ _)
 
-pub receive-records : (k : Key) (memory wire : List ℕ) (x count : ℕ) → ReceiveRecords k memory wire x count
-unfolding receiving
-receive-records k memory wire x count s e = rw (e, s) (errors-recorded _ _ _)
+-- An accepted receive from an empty slot records the first error.
+pub receive-records : (k : Key) (memory wire : List ℕ) (offset dataLength : ℕ) → ReceiveFindsFirstError k memory wire offset dataLength
+unfolding receiveResult
+receive-records k memory wire offset dataLength s e = rw (e, s) (errors-recorded _ _ _)

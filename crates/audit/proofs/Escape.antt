@@ -1,4 +1,5 @@
--- Answer 2 shuts the escape to blocks that carry the configured tag. Assumes nothing.
+-- This law shows that a block with the configured application tag is never escaped: configure refuses, with answer 2, a
+-- tag that would escape it.
 use Rattle.key.specs.declared.Key.{Key}
 use Rattle.key.proofs.Laws.{escape-shut}
 use Rattle.audit.specs.Escape.{EscapeShut}

@@ -1,4 +1,4 @@
--- The bytes of a field found in a stream are the stream's own. Assumes nothing.
+-- These laws show that the bytes of a field found in a stream are the stream's own.
 use mathlib.Core.Path.{_≡_, refl, ap, _∙_}
 use mathlib.Core.List.{List, [], _∷_}
 use Prim.Native.Nat.{ℕ, zero, suc, _+_, _*_, _/_, _%_, _<_}
@@ -12,7 +12,7 @@ use Rattle.engine.specs.Streams.{fieldSize, inBlock, inUnit, inputField}
 use Rattle.engine.proofs.Settling.{bytes-take}
 use Rattle.audit.specs.Errors.{FoundBytes}
 
--- eight bytes, made a field and taken apart again
+-- The bytes of a field that was read from eight bytes are those eight bytes.
 pub split-joined : (a b c d e f g h : ℕ) → b < 256 → d < 256 → f < 256 → g < 256 → h < 256
     → bytesOf (fieldOf (a ∷ b ∷ c ∷ d ∷ e ∷ f ∷ g ∷ h ∷ [])) ≡ a ∷ b ∷ c ∷ d ∷ e ∷ f ∷ g ∷ h ∷ []
 unfolding bytesOf fieldOf
@@ -29,6 +29,7 @@ split-joined a b c d e f g h p q r s t =
     let four : (g * 256 + h) % 256 ≡ h = omega arith in
     rw (guard, guard′, tag, tag′, high, low, one, two, three, four)
 
+-- Element k of the list of f 0 to f 7 is f k.
 eight-at : (f : ℕ → ℕ) (k : ℕ) → k < 8 → getD (f 0 ∷ f 1 ∷ f 2 ∷ f 3 ∷ f 4 ∷ f 5 ∷ f 6 ∷ f 7 ∷ []) k 0 ≡ f k
 eight-at f zero h = refl
 eight-at f (suc zero) h = refl
@@ -40,7 +41,7 @@ eight-at f (suc (suc (suc (suc (suc (suc zero)))))) h = refl
 eight-at f (suc (suc (suc (suc (suc (suc (suc zero))))))) h = refl
 eight-at f (suc (suc (suc (suc (suc (suc (suc (suc k)))))))) h = absurd (omega arith)
 
--- a field's bytes are those that it was made of
+-- Byte k of a field that was read from a list of bytes is byte k of that list.
 found-byte : (bs : List ℕ) → Bytes bs → (k : ℕ) → k < 8 → getD (bytesOf (fieldOf bs)) k 0 ≡ getD bs k 0
 unfolding fieldOf
 found-byte bs b k h =
@@ -51,6 +52,7 @@ found-byte bs b k h =
 bytes-drop : (n : ℕ) (xs : List ℕ) → Bytes xs → Bytes (drop n xs)
 bytes-drop n xs b i = rw (getD-drop n xs i 0) (b (n + i))
 
+-- The bytes of the field found after block i are those after block i in the stream.
 pub found-bytes : (r : Rule) (stream : List ℕ) → FoundBytes r stream
 unfolding inputField fieldSize
 found-bytes r stream b s i k h =

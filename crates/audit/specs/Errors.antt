@@ -1,5 +1,18 @@
--- Demand 2, errors: "It records no error exactly when every checked byte of every field that isn't escaped is right; otherwise the first bad
--- block, and in it guard before application tag before reference tag." In bytes, for a rule, an input stream and its first n blocks.
+-- Demand 2, errors: "It records no error exactly when every checked byte of every field that isn't escaped is right;
+-- otherwise the first bad block, and in it guard before application tag before reference tag." In bytes, for a rule, an
+-- input stream and its first n blocks.
+--
+--   found r stream i                 the field found after block i
+--   FoundBytes r stream              its bytes are the stream's own
+--   computed r stream i              the field that the input domain's rule computes for block i
+--   CheckedByte r stream i k         byte k of block i's field is checked
+--   RightByte, GoodByte, BadByte     it is right; right if it is checked; checked and wrong
+--   GoodBlock r stream i             all its bytes are good
+--   first tag, after tag, valueOf    a tag's first byte, the byte after it, and its value
+--   FirstBadTag r stream i tag       block i is bad, and this is its first bad tag
+--   FirstBadBlock r stream n e       the error is that of the first bad block
+--   HoldsFirstError r stream n slot  what a slot that was empty holds after n blocks
+--   SendFindsFirstError, ReceiveFindsFirstError    so it is after an accepted transfer from an empty slot
 use mathlib.Core.Path.{_≡_}
 use mathlib.Core.Bool.{true, false}
 use mathlib.Core.List.{List}
@@ -8,103 +21,114 @@ use Prim.Native.Nat.{ℕ, _+_, _*_, _/_, _≤_, _<_}
 use lib.ListN.{getD}
 use Rattle.guard.specs.Guards.{Bytes}
 use Rattle.field.specs.declared.ProtectionField.{ProtectionField}
-use Rattle.field.specs.declared.Part.{Part}
-use Rattle.field.specs.declared.Part.the-variants.{Guard, Application, Reference}
+use Rattle.field.specs.declared.Tag.{Tag}
+use Rattle.field.specs.declared.Tag.the-variants.{Guard, Application, Reference}
 use Rattle.field.specs.Domains.{signed}
-use Rattle.field.specs.Fields.{bytesOf, bytesIn, fieldOf, given}
+use Rattle.field.specs.Fields.{fieldBytes, bytesOf, bytesIn, fieldOf, computedField}
 use Rattle.field.specs.Judging.{escaped}
-use Rattle.key.specs.declared.Error.{Error}
+use Rattle.slot.specs.declared.Error.{Error}
+use Rattle.slot.specs.declared.Slot.{Slot}
+use Rattle.slot.specs.declared.Slot.the-variants.{Empty, Holding}
 use Rattle.key.specs.declared.Key.{Key}
-use Rattle.key.specs.declared.Slot.{Slot}
-use Rattle.key.specs.declared.Slot.the-variants.{Empty, Holding}
 use Rattle.key.specs.declared.Outcome.the-variants.{Done}
 use Rattle.engine.specs.declared.Rule.{Rule}
 use Rattle.engine.specs.Streams.{inBlock, inUnit, inputBlock, inputField}
 use Rattle.engine.specs.Transfers.{guardBy}
 use Rattle.transfer.specs.Rules.{sendRule, receiveRule}
-use Rattle.transfer.specs.Transferring.{memoryStream, wireStream, answerOf, sending, receiving}
+use Rattle.transfer.specs.Transferring.{memoryStream, wireStream, answerOf, sendResult, receiveResult}
 
--- the field found behind block i
-abbrev pub found : Rule → List ℕ → ℕ → ProtectionField
+-- The field found after block i.
+abbrev pub found : (r : Rule) (stream : List ℕ) (i : ℕ) → ProtectionField
 found r stream i = fieldOf (inputField r stream i)
 
--- its bytes are the stream's own
-abbrev pub FoundBytes : Rule → List ℕ → Type 0
+-- Its bytes are the stream's own.
+abbrev pub FoundBytes : (r : Rule) (stream : List ℕ) → Type 0
 FoundBytes r stream =
-    Bytes stream → signed (r .input) ≡ true → (i k : ℕ) → k < 8 → getD (bytesOf (found r stream i)) k 0 ≡ getD stream (i * inUnit r + inBlock r + k) 0
+    Bytes stream → signed (r .input) ≡ true → (i k : ℕ) → k < fieldBytes
+    → getD (bytesOf (found r stream i)) k 0 ≡ getD stream (i * inUnit r + inBlock r + k) 0
 
--- the field that the input domain's rule gives for block i
-abbrev pub right : Rule → List ℕ → ℕ → ProtectionField
-right r stream i = given (r .input) i (guardBy (r .input) (inputBlock r stream i))
+-- The field that the input domain's rule computes for block i.
+abbrev pub computed : (r : Rule) (stream : List ℕ) (i : ℕ) → ProtectionField
+computed r stream i = computedField (r .input) i (guardBy (r .input) (inputBlock r stream i))
 
 -- Byte k of block i's field is checked: its bit of the check mask is set, and it is no guard byte of an escaped block.
 pub record CheckedByte (r : Rule) (stream : List ℕ) (i k : ℕ) : Type 0 where
   pub masked : getD (bytesIn (r .«check_mask»)) k false ≡ true
   pub unescaped : escaped (r .input) (found r stream i) ≡ true → k < 2 → ⊥
 
--- byte k as it was found is as the rule gives it
-abbrev pub RightByte : Rule → List ℕ → ℕ → ℕ → Type 0
-RightByte r stream i k = getD (bytesOf (found r stream i)) k 0 ≡ getD (bytesOf (right r stream i)) k 0
+-- Byte k as found is byte k as computed.
+abbrev pub RightByte : (r : Rule) (stream : List ℕ) (i k : ℕ) → Type 0
+RightByte r stream i k = getD (bytesOf (found r stream i)) k 0 ≡ getD (bytesOf (computed r stream i)) k 0
 
-abbrev pub GoodByte : Rule → List ℕ → ℕ → ℕ → Type 0
+-- Byte k is right if it is checked.
+abbrev pub GoodByte : (r : Rule) (stream : List ℕ) (i k : ℕ) → Type 0
 GoodByte r stream i k = CheckedByte r stream i k → RightByte r stream i k
 
+-- Byte k is checked, and it is wrong.
 pub record BadByte (r : Rule) (stream : List ℕ) (i k : ℕ) : Type 0 where
   pub checked : CheckedByte r stream i k
   pub wrong : RightByte r stream i k → ⊥
 
-abbrev pub GoodBlock : Rule → List ℕ → ℕ → Type 0
-GoodBlock r stream i = (k : ℕ) → k < 8 → GoodByte r stream i k
+-- All bytes of block i's field are good.
+abbrev pub GoodBlock : (r : Rule) (stream : List ℕ) (i : ℕ) → Type 0
+GoodBlock r stream i = (k : ℕ) → k < fieldBytes → GoodByte r stream i k
 
--- a part's first byte, the first byte behind it, and its value
-abbrev pub first : Part → ℕ
+-- A tag's first byte in the field.
+abbrev pub first : (tag : Tag) → ℕ
 first Guard = 0
 first Application = 2
 first Reference = 4
 
-abbrev pub behind : Part → ℕ
-behind Guard = 2
-behind Application = 4
-behind Reference = 8
+-- The first byte after a tag.
+abbrev pub after : (tag : Tag) → ℕ
+after Guard = 2
+after Application = 4
+after Reference = 8
 
-abbrev pub valueOf : Part → ProtectionField → ℕ
+-- A tag's value in a field.
+abbrev pub valueOf : (tag : Tag) (f : ProtectionField) → ℕ
 valueOf Guard f = f .guard
 valueOf Application f = f .application
 valueOf Reference f = f .reference
 
--- Block i is bad, and this is its first bad part: one of the part's bytes is bad, and no byte of the parts before it.
-pub record FirstBadPart (r : Rule) (stream : List ℕ) (i : ℕ) (part : Part) : Type 0 where
+-- Block i is bad, and this is its first bad tag: one of the tag's bytes is bad, and no byte of the tags before it.
+pub record FirstBadTag (r : Rule) (stream : List ℕ) (i : ℕ) (tag : Tag) : Type 0 where
   pub byte : ℕ
-  pub from : first part ≤ byte
-  pub to : byte < behind part
+  pub from : first tag ≤ byte
+  pub to : byte < after tag
   pub bad : BadByte r stream i byte
-  pub before : (k : ℕ) → k < first part → GoodByte r stream i k
+  pub before : (k : ℕ) → k < first tag → GoodByte r stream i k
 
--- The error is that of the first bad block, the one of the n at which all blocks before are good: its first bad part, whole as the rule gives
--- it (actual), whole as it was found (expected), and where the block's data begins in the input stream.
+-- The error is that of the first bad block, the one of the n before which all blocks are good: its first bad tag, whole
+-- as the rule computes it (actual), whole as it was found (expected), and where the block's data begins in the input
+-- stream.
 pub record FirstBadBlock (r : Rule) (stream : List ℕ) (n : ℕ) (e : Error) : Type 0 where
   pub block : ℕ
   pub among : block < n
   pub before : (i : ℕ) → i < block → GoodBlock r stream i
-  pub part : FirstBadPart r stream block (e .part)
-  pub actual : e .actual ≡ valueOf (e .part) (right r stream block)
-  pub expected : e .expected ≡ valueOf (e .part) (found r stream block)
+  pub tag : FirstBadTag r stream block (e .mismatch .tag)
+  pub actual : e .mismatch .actual ≡ valueOf (e .mismatch .tag) (computed r stream block)
+  pub expected : e .mismatch .expected ≡ valueOf (e .mismatch .tag) (found r stream block)
   pub offset : e .offset ≡ block * inUnit r
 
--- What a slot that was empty records of n blocks.
-pub record Records (r : Rule) (stream : List ℕ) (n : ℕ) (slot : Slot) : Type 0 where
+-- What a slot that was empty holds after n blocks.
+pub record HoldsFirstError (r : Rule) (stream : List ℕ) (n : ℕ) (slot : Slot) : Type 0 where
   pub unsigned : signed (r .input) ≡ false → slot ≡ Empty
   pub none : signed (r .input) ≡ true → (slot ≡ Empty) ↔ ((i : ℕ) → i < n → GoodBlock r stream i)
   pub some : signed (r .input) ≡ true → (e : Error) → slot ≡ Holding e → FirstBadBlock r stream n e
 
 -- ---- of an accepted transfer from an empty slot
 
-abbrev pub SendRecords : Key → List ℕ → List ℕ → ℕ → ℕ → Type 0
-SendRecords k memory wire x count =
-    k .slot ≡ Empty → answerOf k memory wire x count ≡ Done
-    → Records (sendRule (k .signature)) (memoryStream k memory x count) (count / inBlock (sendRule (k .signature))) (sending k memory wire x count .key .slot)
+-- An accepted send.
+abbrev pub SendFindsFirstError : (k : Key) (memory wire : List ℕ) (offset dataLength : ℕ) → Type 0
+SendFindsFirstError k memory wire offset dataLength =
+    k .slot ≡ Empty → answerOf k memory wire offset dataLength ≡ Done
+    → HoldsFirstError (sendRule (k .signature)) (memoryStream k memory offset dataLength)
+    (dataLength / inBlock (sendRule (k .signature))) (sendResult k memory wire offset dataLength .key .slot)
 
-abbrev pub ReceiveRecords : Key → List ℕ → List ℕ → ℕ → ℕ → Type 0
-ReceiveRecords k memory wire x count =
-    k .slot ≡ Empty → answerOf k memory wire x count ≡ Done
-    → Records (receiveRule (k .signature)) (wireStream k wire count) (count / inBlock (receiveRule (k .signature))) (receiving k memory wire x count .key .slot)
+-- An accepted receive.
+abbrev pub ReceiveFindsFirstError : (k : Key) (memory wire : List ℕ) (offset dataLength : ℕ) → Type 0
+ReceiveFindsFirstError k memory wire offset dataLength =
+    k .slot ≡ Empty → answerOf k memory wire offset dataLength ≡ Done
+    → HoldsFirstError (receiveRule (k .signature)) (wireStream k wire dataLength)
+    (dataLength / inBlock (receiveRule (k .signature))) (receiveResult k memory wire offset dataLength .key .slot)

@@ -1,5 +1,9 @@
--- "One site used it as its ordinary tag, and eleven weeks of blocks went unchecked" (the order) is shut out: under a configuration that was
--- accepted, a block that carries the configured application tag is never escaped, whatever the escape flags.
+-- The order's fault "One site used it as its ordinary tag, and eleven weeks of blocks went unchecked" cannot happen:
+-- under an accepted configuration a block with the configured application tag is never escaped, whatever the escape
+-- flags.
+--
+--   NeverEscapes d       no block with the domain's application tag is escaped
+--   EscapeShut k         so it is for both domains of every configured key
 use mathlib.Core.Path.{_≡_}
 use mathlib.Core.Bool.{true, false}
 use Rattle.field.specs.declared.Domain.{Domain}
@@ -9,9 +13,12 @@ use Rattle.field.specs.Judging.{escaped}
 use Rattle.key.specs.declared.Key.{Key}
 use Rattle.key.specs.Keys.{CameFromCalls}
 
-abbrev pub NeverLooksAway : Domain → Type 0
-NeverLooksAway d = signed d ≡ true → (found : ProtectionField) → found .application ≡ d .«application_tag» → escaped d found ≡ false
+-- No block with the domain's application tag is escaped.
+abbrev pub NeverEscapes : (d : Domain) → Type 0
+NeverEscapes d =
+    signed d ≡ true → (found : ProtectionField) → found .application ≡ d .«application_tag» → escaped d found ≡ false
 
--- of both domains of every configured key
-abbrev pub EscapeShut : Key → Type 0
-EscapeShut k = CameFromCalls k → k .configured ≡ true → NeverLooksAway (k .signature .memory) × NeverLooksAway (k .signature .wire)
+-- So it is for both domains of every configured key.
+abbrev pub EscapeShut : (k : Key) → Type 0
+EscapeShut k =
+    CameFromCalls k → k .configured ≡ true → NeverEscapes (k .signature .memory) × NeverEscapes (k .signature .wire)

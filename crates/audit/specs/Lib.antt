@@ -5,5 +5,5 @@ pub mod Copying
 pub mod Escape
 pub mod CaseM
 pub mod Premise
-pub mod AtBorder
-pub mod ListsAtBorder
+pub mod CCalls
+pub mod CLists

@@ -1,1 +1,1 @@
-// What the contracts come to, in the words of the order's demands. Definitions and theorems alone: specs/ and proofs/.
+// This crate has no code: its specs say what the contracts imply, in the words of the customer's order.

@@ -1,2 +1,2 @@
-pub mod Border
-pub mod Cases
+pub mod Calls
+pub mod ThreeCases

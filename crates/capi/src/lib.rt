@@ -1,74 +1,72 @@
-// The C interface (include/garoalva.h): 01's calls over plain records of numbers. A record that came from these calls
-// gets what the call below answers, one that only looks so is worked by as it stands, and any other is refused with a
-// number of our own.
-mod packing;
-mod transferring;
+// The C API (include/garoalva.h): 01's calls on plain structs. A struct that came from these calls gets what the call
+// of the crates below returns, one that only looks so is used as it is, and any other is refused with a number of our
+// own.
+mod key_calls;
+mod session_calls;
 
-pub use packing::garoalva_abandon;
-pub use packing::garoalva_finish;
-pub use packing::garoalva_open;
-pub use packing::garoalva_packet;
-use records::KeyRecord;
-use records::SessionRecord;
-pub use transferring::garoalva_check;
-pub use transferring::garoalva_configure;
-pub use transferring::garoalva_fresh;
-pub use transferring::garoalva_receive;
-pub use transferring::garoalva_send;
+use cstructs::CKey;
+use cstructs::CSession;
+pub use key_calls::garoalva_check;
+pub use key_calls::garoalva_configure;
+pub use key_calls::garoalva_fresh;
+pub use key_calls::garoalva_receive;
+pub use key_calls::garoalva_send;
+pub use session_calls::garoalva_abandon;
+pub use session_calls::garoalva_finish;
+pub use session_calls::garoalva_open;
+pub use session_calls::garoalva_packet;
+use slot::ErrorNumbers;
 
-// Answers of our own.
+// Answers of our own: the struct is no key, or no session.
 pub(crate) const NOT_A_KEY: u64 = 1000;
 
 pub(crate) const NOT_A_SESSION: u64 = 1001;
 
 #[repr(C)]
-pub struct ConfiguredRecord {
-    pub key: KeyRecord,
+pub struct CConfigureResult {
+    pub key: CKey,
     pub answer: u64,
 }
 
 #[repr(C)]
-pub struct TransferredRecord {
-    pub key: KeyRecord,
-    pub answer: u64,
-    pub taken: u64,
-    pub written: u64,
-}
-
-#[repr(C)]
-pub struct CheckedRecord {
-    pub key: KeyRecord,
-    pub answer: u64,
-    pub kind: u64,
-    pub actual: u64,
-    pub expected: u64,
-    pub offset: u64,
-}
-
-#[repr(C)]
-pub struct OpenedRecord {
-    pub key: KeyRecord,
-    pub session: SessionRecord,
-    pub answer: u64,
-}
-
-#[repr(C)]
-pub struct PackedRecord {
-    pub session: SessionRecord,
+pub struct CTransferResult {
+    pub key: CKey,
     pub answer: u64,
     pub taken: u64,
     pub written: u64,
 }
 
 #[repr(C)]
-pub struct FinishedRecord {
-    pub key: KeyRecord,
-    pub session: SessionRecord,
+pub struct CCheckResult {
+    pub key: CKey,
+    pub answer: u64,
+    pub error: ErrorNumbers,
+}
+
+#[repr(C)]
+pub struct COpenResult {
+    pub key: CKey,
+    pub session: CSession,
     pub answer: u64,
 }
 
 #[repr(C)]
-pub struct AbandonedRecord {
-    pub key: KeyRecord,
+pub struct CPacketResult {
+    pub session: CSession,
+    pub answer: u64,
+    pub taken: u64,
+    pub written: u64,
+}
+
+#[repr(C)]
+pub struct CFinishResult {
+    pub key: CKey,
+    pub session: CSession,
+    pub answer: u64,
+}
+
+#[repr(C)]
+pub struct CAbandonResult {
+    pub key: CKey,
     pub answer: u64,
 }

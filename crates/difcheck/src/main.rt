@@ -1,19 +1,21 @@
-// difcheck: checks the fields of a wire on standard input, and prints check's answer, or "refused 9".
+// difcheck checks the fields of a wire on standard input, and prints the numbers that check returns, or "refused 9".
 use libc::STDIN_FILENO;
 use libc::STDOUT_FILENO;
 use wirecheck::Answer;
 
-// Whether there is a byte more on standard input.
+// True if there is one more byte on standard input.
 fn one_more() -> bool {
     let mut next = [0u8; 1];
     0 < io::read_full(STDIN_FILENO, &mut next)
 }
 
+// Prints a space and a number.
 fn print_spaced(n: u64) {
     io::write_all(STDOUT_FILENO, b" ");
     io::print_decimal(STDOUT_FILENO, n);
 }
 
+// Prints the answer and a line end.
 fn print(answer: Answer) {
     match answer {
         Answer::Refused(n) => {
@@ -21,7 +23,7 @@ fn print(answer: Answer) {
             print_spaced(n as u64);
         }
         Answer::Found(f) => {
-            io::print_decimal(STDOUT_FILENO, f.kind as u64);
+            io::print_decimal(STDOUT_FILENO, f.error_type as u64);
             print_spaced(f.actual as u64);
             print_spaced(f.expected as u64);
             print_spaced(f.offset as u64);

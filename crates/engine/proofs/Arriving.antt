@@ -1,4 +1,5 @@
--- Where the engine stands before the first byte and after one more has arrived. Assumes nothing.
+-- Laws about arriving bytes: before the first byte, and after each further one, the engine is where the transfer rule
+-- says.
 use mathlib.Core.Path.{_≡_, refl, sym, ap, _∙_}
 use mathlib.Core.Bool.{Bool, true, false, cond}
 use mathlib.Core.List.{List, [], _∷_, _++_, append-assoc, append-nil}
@@ -10,35 +11,38 @@ use lib.Dec.{ltb}
 use lib.ListN.{length, take, drop, set, length-append, length-drop, length-set, drop-of-length-le}
 use lib.Seq.{take-all, take-nil, drop-nil, take-append-le, drop-append-le, take-suc-set}
 use borrow.Author.Tests.{ltb-true, ltb-false}
-use Rattle.guard.specs.declared.Running.{Running}
+use Rattle.guard.specs.declared.RunningGuard.{RunningGuard}
 use Rattle.guard.specs.Guards.{started, stepped, advanced}
 use Rattle.guard.proofs.Laws.{advanced-append}
 use Rattle.field.specs.declared.Domain.{Domain}
 use Rattle.field.specs.Domains.{signed}
 use Rattle.field.specs.Fields.{fieldOf}
-use Rattle.key.specs.declared.Slot.{Slot}
-use Rattle.key.proofs.Laws.{keep-none}
+use Rattle.slot.specs.declared.Slot.{Slot}
+use Rattle.slot.proofs.Laws.{keep-none}
 use Rattle.engine.specs.declared.Rule.{Rule}
 use Rattle.engine.specs.declared.Progress.{Progress}
 use Rattle.engine.specs.Streams.{fieldSize, inBlock, inUnit}
 use Rattle.engine.specs.Transfers.{joined, firstError}
 use Rattle.engine.specs.Feeding.{checksGuard, makesGuard, sideAfter, arrived, shown, begun}
-use Rattle.engine.specs.Standing.{running, unitOut, Reached}
+use Rattle.engine.specs.Inner.Standing.{running, unitOut, Reached}
 
 cond-same : {A : Type 0} (b : Bool) (a : A) → cond b a a ≡ a
 cond-same true a = refl
 cond-same false a = refl
 
-pub running-none : (d : Domain) (works : Bool) → _≡_ {A = Running} (started (d .seed)) (running d works [])
+-- Over no bytes, the running guard is the started one, whether it is computed or not.
+pub running-none : (d : Domain) (works : Bool) → _≡_ {A = RunningGuard} (started (d .seed)) (running d works [])
 unfolding advanced
 running-none d works = sym (cond-same works (started (d .seed)))
 
+-- If the running guard is computed, one more byte advances it.
 running-more : (d : Domain) (works : Bool) (xs : List ℕ) (b : ℕ)
     → cond works (stepped (d .«guard_type») (running d works xs) b) (running d works xs) ≡ running d works (xs ++ (b ∷ []))
 unfolding advanced
 running-more d true xs b = sym (advanced-append (d .«guard_type») (started (d .seed)) xs (b ∷ []))
 running-more d false xs b = refl
 
+-- A field has at most 8 bytes.
 pub field-small : (d : Domain) → fieldSize d ≤ 8
 unfolding fieldSize
 field-small d = small (signed d)
@@ -48,13 +52,14 @@ field-small d = small (signed d)
     small false = omega arith
 
 module _ (r : Rule) (slot : Slot) where
+  -- Before the first byte, nothing has arrived and nothing is stored.
   pub reached-begun : Reached r slot [] (begun r slot) []
   unfolding joined firstError fieldOf
   reached-begun = record {
     past = [];
     left = [];
     split = refl;
-    behind = sym (zero-mul (inUnit r));
+    pastLength = sym (zero-mul (inUnit r));
     under = refl;
     within = omega arith;
     index = refl;
@@ -68,6 +73,7 @@ module _ (r : Rule) (slot : Slot) where
     shown = rw (take-nil {A = ℕ} (inBlock r));
   }
 
+  -- In these laws the byte b arrives in a unit that is not whole.
   module _ (xs : List ℕ) (p : Progress) (out : List ℕ) (b : ℕ) (R : Reached r slot xs p out) (h : p .input .at < inUnit r) where
     split′ : xs ++ (b ∷ []) ≡ R .past ++ (R .left ++ (b ∷ []))
     split′ = ap (λ (l : List ℕ). l ++ (b ∷ [])) (R .split) ∙ append-assoc (R .past) (R .left) (b ∷ [])
@@ -75,7 +81,7 @@ module _ (r : Rule) (slot : Slot) where
     under′ : length (R .left ++ (b ∷ [])) ≡ p .input .at + 1
     under′ = length-append (R .left) (b ∷ []) ∙ ap (λ (n : ℕ). n + 1) (R .under)
 
-    -- as data
+    -- The byte arrives as data of the block.
     module _ (l : p .input .at < inBlock r) where
       all : take (inBlock r) (R .left) ≡ R .left
       all = take-all (inBlock r) (R .left) (omega (arith, R .under))
@@ -97,7 +103,7 @@ module _ (r : Rule) (slot : Slot) where
         past = R .past;
         left = R .left ++ (b ∷ []);
         split = split′;
-        behind = R .behind;
+        pastLength = R .pastLength;
         under = under′;
         within = omega arith;
         index = R .index;
@@ -111,7 +117,7 @@ module _ (r : Rule) (slot : Slot) where
         shown = rw (all′, R .shown, all) (append-assoc (joined _++_ [] (unitOut r (R .past)) 0 (p .input .index)) (R .left) (b ∷ []));
       }
 
-    -- as a byte of the field
+    -- The byte arrives as a byte of the field.
     module _ (l : inBlock r ≤ p .input .at) where
       front : take (inBlock r) (R .left ++ (b ∷ [])) ≡ take (inBlock r) (R .left)
       front = take-append-le (inBlock r) (R .left) (b ∷ []) (omega (arith, R .under))
@@ -140,7 +146,7 @@ module _ (r : Rule) (slot : Slot) where
         past = R .past;
         left = R .left ++ (b ∷ []);
         split = split′;
-        behind = R .behind;
+        pastLength = R .pastLength;
         under = under′;
         within = omega arith;
         index = R .index;
@@ -154,6 +160,7 @@ module _ (r : Rule) (slot : Slot) where
         shown = rw (front, append-nil out) (R .shown);
       }
 
+    -- After one more byte has arrived, the engine is where the transfer rule says.
     pub reached-arrived : Reached r slot (xs ++ (b ∷ [])) (arrived r p b) (out ++ shown r p b)
     unfolding arrived
     reached-arrived = go (ltb (p .input .at) (inBlock r)) refl

@@ -1,4 +1,4 @@
--- Where neither side is signed, each byte is a unit, and bytes go as they come. Assumes nothing.
+-- Laws about transfers without signatures: each byte is a unit, and the output bytes are the input bytes.
 use mathlib.Core.Path.{_≡_, refl, sym, ap, _∙_}
 use mathlib.Core.Bool.{true}
 use mathlib.Core.List.{List, [], _∷_, _++_}
@@ -8,25 +8,26 @@ use lib.Dec.{ltb}
 use lib.ListN.{length}
 use borrow.Author.Tests.{lt-ltb, eq-eqb}
 use Rattle.field.specs.Domains.{signed}
-use Rattle.key.specs.Keys.{keep}
-use Rattle.key.proofs.Laws.{keep-none}
+use Rattle.slot.specs.Slots.{keep}
+use Rattle.slot.proofs.Laws.{keep-none}
 use Rattle.layout.specs.declared.Layout.{Layout}
-use Rattle.layout.specs.declared.walking.Cursor.{Cursor}
-use Rattle.layout.specs.Cursors.{ahead, InLayout, Stored}
+use Rattle.layout.specs.declared.cursor.Cursor.{Cursor}
+use Rattle.layout.specs.Inner.Cursors.{ahead, InLayout, Stored}
 use Rattle.layout.proofs.CursorLaws.{stored-nothing}
 use Rattle.engine.specs.declared.Rule.{Rule}
 use Rattle.engine.specs.declared.Progress.{Progress}
 use Rattle.engine.specs.Streams.{blockSize, fieldSize, inBlock, inUnit}
 use Rattle.engine.specs.Transfers.{errorBy}
 use Rattle.engine.specs.Feeding.{sideAt, arrived, whole, errorDue, settled, placed, shown, fed, emitted}
-use Rattle.engine.specs.Parts.{InStep, Room, Feeds, Bare, Countable}
+use Rattle.engine.specs.Inner.Parts.{InStep, Room, Feeds, Unsigned, Countable}
 use Rattle.engine.proofs.PartLaws.{countable}
 
--- the progress n bytes further on
+-- `moved r p n` is the progress n units of one byte further on.
 abbrev moved : Rule → Progress → ℕ → Progress
 moved r p n = record { input = sideAt (r .input) (p .input .index + n); output = sideAt (r .output) (p .output .index + n); held = p .held; slot = p .slot }
 
-module _ (r : Rule) (b : Bare r) where
+-- In these laws neither side is signed.
+module _ (r : Rule) (b : Unsigned r) where
   one-block : inBlock r ≡ 1
   unfolding blockSize
   one-block = rw (b .input, b .output)
@@ -35,6 +36,7 @@ module _ (r : Rule) (b : Bare r) where
   unfolding fieldSize
   one-unit = rw (one-block, b .input)
 
+  -- Without an input signature no error is recorded.
   no-error : (p : Progress) → keep (p .slot) (errorDue r p) ≡ p .slot
   unfolding errorDue errorBy
   no-error p = rw (b .input) (keep-none (p .slot))
@@ -51,6 +53,7 @@ module _ (r : Rule) (b : Bare r) where
     unfolding arrived
     kept = rw is-data (refl, refl, refl, refl)
 
+    -- A byte completes its unit, and the next unit begins.
     one-byte : settled r (arrived r p x) ≡ moved r p 1
     unfolding settled
     one-byte =
@@ -62,10 +65,11 @@ module _ (r : Rule) (b : Bare r) where
           slot = (no-error (arrived r p x) ∙ kept .3) i;
         })
 
+    -- A byte is stored as it arrives, and no field is stored after it.
     one-shown : shown r p x ++ placed r (arrived r p x) ≡ x ∷ []
     one-shown = rw (is-data, is-whole, b .output)
 
-  -- Fed bytes go as they come.
+  -- Feeding n bytes without signatures leads n units further on.
   pub bare-fed : (p : Progress) → p .input .at ≡ 0 → (x : ℕ) (xs : List ℕ) → fed r p (x ∷ xs) ≡ moved r p (suc (length xs))
   unfolding fed
   bare-fed p h x [] = one-byte p h x
@@ -74,21 +78,24 @@ module _ (r : Rule) (b : Bare r) where
       let f : p .output .index + 1 + suc (length ys) ≡ p .output .index + suc (suc (length ys)) = omega arith in
       rw (one-byte p h x) (bare-fed (moved r p 1) refl y ys ∙ rw (e, f))
 
+  -- Without signatures the output bytes are the input bytes.
   pub bare-emitted : (p : Progress) → p .input .at ≡ 0 → (xs : List ℕ) → emitted r p xs ≡ xs
   unfolding emitted
   bare-emitted p h [] = refl
   bare-emitted p h (x ∷ xs) = rw (one-shown p h x, one-byte p h x, bare-emitted (moved r p 1) refl xs)
 
   module _ (p : Progress) (l : Layout) (c : Cursor) (before bytes : List ℕ) (s : InStep r p) (k : p .input .at < inUnit r) where
+    -- A unit of one byte that is not whole is at its start.
     at-start : p .input .at ≡ 0
     at-start = omega (arith, one-unit)
 
-    -- room for the bytes, and for counting them
+    -- If there is room for the output of the bytes, there is room for the bytes, and they can be counted.
     pub bare-room : (m : ℕ) → Room r p l c m (length (emitted r p bytes)) → (length bytes ≤ length (ahead l c)) × Countable r p × (length bytes ≤ 2 ^ 26)
     bare-room m R =
         let e = ap length (bare-emitted p at-start bytes) in
         (omega (arith, R .fits), countable r p s (omega (arith, R .small)), omega (arith, R .fits, R .small))
 
+    -- Feeding no bytes changes nothing.
     pub bare-none : length bytes ≡ 0 → InLayout l c → Feeds r p l c before bytes (record { progress = p; cursor = c }) before
     unfolding fed emitted
     bare-none e t = go bytes e
@@ -97,6 +104,7 @@ module _ (r : Rule) (b : Bare r) where
         go [] z = record { progress = refl; stored = stored-nothing l c before t }
         go (y ∷ ys) z = absurd (omega arith)
 
+    -- Storing the bytes and moving the progress past them is feeding them.
     pub bare-done : (length bytes ≡ 0 → ⊥) → (d : Cursor) (after : List ℕ) → Stored l c before bytes d after
         → Feeds r p l c before bytes (record { progress = moved r p (length bytes); cursor = d }) after
     bare-done n d after e = record { progress = go bytes n; stored = rw (bare-emitted p at-start bytes) e }

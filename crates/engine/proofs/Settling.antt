@@ -1,4 +1,4 @@
--- Where the engine stands after a unit is whole: its error and its output field are those of the transfer rule. Assumes nothing.
+-- Laws about closing a whole unit: its error and its output field are those of the transfer rule.
 use mathlib.Core.Path.{_≡_, refl, sym, ap, _∙_}
 use mathlib.Core.Bool.{Bool, true, false, cond}
 use mathlib.Core.List.{List, [], _∷_, _++_, append-assoc, append-nil}
@@ -6,28 +6,28 @@ use Prim.Native.Nat.{ℕ, zero, suc, _+_, _-_, _*_, _/_, _%_, _≤_, _<_}
 use native.Mathlib.Nat.{suc-mul}
 use native.Mathlib.Numerals.{add-one}
 use native.Mathlib.Omega.{arith}
-use lib.Dec.{eqb, ltb}
+use lib.Dec.{eqb, leb}
 use lib.ListN.{length, take, drop, length-append, length-drop}
 use lib.Seq.{take-all, take-nil, drop-nil, drop-at}
-use borrow.Author.Tests.{ltb-false, eqb-true, eqb-false}
-use Rattle.guard.specs.Guards.{Bytes, finished}
+use borrow.Author.Tests.{leb-false, eqb-true, eqb-false}
+use Rattle.guard.specs.Guards.{Bytes, guardValue}
 use Rattle.guard.proofs.Laws.{whole-block}
 use Rattle.field.specs.declared.Domain.{Domain}
 use Rattle.field.specs.declared.ProtectionField.{ProtectionField}
 use Rattle.field.specs.Domains.{signed}
-use Rattle.field.specs.Fields.{bytesOf, fieldOf, given}
+use Rattle.field.specs.Fields.{bytesOf, fieldOf, computedField}
 use Rattle.field.specs.Judging.{judged}
 use Rattle.field.specs.Output.{outputField}
 use Rattle.field.proofs.Laws.{unchecked, uncopied}
-use Rattle.key.specs.declared.Slot.{Slot}
-use Rattle.key.specs.Keys.{keep}
-use Rattle.key.proofs.Laws.{keep-first}
+use Rattle.slot.specs.declared.Slot.{Slot}
+use Rattle.slot.specs.Slots.{keep}
+use Rattle.slot.proofs.Laws.{keep-first}
 use Rattle.engine.specs.declared.Rule.{Rule}
 use Rattle.engine.specs.declared.Progress.{Progress}
 use Rattle.engine.specs.Streams.{fieldSize, inBlock, inUnit, inputBlock, inputField}
-use Rattle.engine.specs.Transfers.{joined, guardBy, fieldBehind, slotOf, errorBy, errorOf, firstError}
+use Rattle.engine.specs.Transfers.{joined, guardBy, fieldAfter, slotOf, errorBy, errorOf, firstError}
 use Rattle.engine.specs.Feeding.{checksGuard, makesGuard, sideAt, whole, fieldMade, fieldDue, errorDue, settled, placed}
-use Rattle.engine.specs.Standing.{Matched, running, unitOut, Reached}
+use Rattle.engine.specs.Inner.Standing.{Matched, running, unitOut, Reached}
 use Rattle.engine.proofs.Windows.{window-second}
 use Rattle.engine.proofs.Units.{units-first, errors-first, units-last, errors-last}
 use Rattle.engine.proofs.Arriving.{running-none}
@@ -43,50 +43,56 @@ bytes-after [] ys h = h
 bytes-after (x ∷ xs) ys h = bytes-after xs ys (λ j. h (suc j))
 
 module _ (r : Rule) (m : Matched r) where
-  -- a guard that is worked out is the block's, and one that isn't plays no part
+  -- A guard that is computed is the guard of the block, and one that is not computed does not change the result.
   module _ (block : List ℕ) (h : Bytes block) (i : ℕ) (found : ProtectionField) where
-    right-guard : (d : Domain) → d .seed ≤ 65535 → finished (d .«guard_type») (running d true block) ≡ guardBy d block
+    -- A guard that is computed over a whole block is the guard of the block.
+    right-guard : (d : Domain) → d .seed ≤ 65535 → guardValue (d .«guard_type») (running d true block) ≡ guardBy d block
     right-guard d s = whole-block (d .«guard_type») (d .seed) block s h
 
+    -- The judgement is that of the transfer rule, whether the input guard is computed or not.
     judged-right : signed (r .input) ≡ true
-        → judged (r .input) (r .«check_mask») i (finished (r .input .«guard_type») (running (r .input) (checksGuard r) block)) found
+        → judged (r .input) (r .«check_mask») i (guardValue (r .input .«guard_type») (running (r .input) (checksGuard r) block)) found
         ≡ judged (r .input) (r .«check_mask») i (guardBy (r .input) block) found
     unfolding checksGuard
-    judged-right s = go (ltb 63 (r .«check_mask»)) refl
+    judged-right s = go (leb 64 (r .«check_mask»)) refl
       where
-        go : (t : Bool) → ltb 63 (r .«check_mask») ≡ t
-            → judged (r .input) (r .«check_mask») i (finished (r .input .«guard_type») (running (r .input) (checksGuard r) block)) found
+        go : (t : Bool) → leb 64 (r .«check_mask») ≡ t
+            → judged (r .input) (r .«check_mask») i (guardValue (r .input .«guard_type») (running (r .input) (checksGuard r) block)) found
             ≡ judged (r .input) (r .«check_mask») i (guardBy (r .input) block) found
         go true e = rw (s, e, right-guard (r .input) (m .inSeed s))
-        go false e = unchecked (r .input) (r .«check_mask») i _ _ found (let l = ltb-false 63 (r .«check_mask») e in omega arith)
+        go false e = unchecked (r .input) (r .«check_mask») i _ _ found (leb-false 64 (r .«check_mask») e)
 
+    -- The output field is that of the transfer rule, whether the output guard is computed or not.
     made-right : signed (r .output) ≡ true
-        → outputField (r .«copy_mask») found (given (r .output) i (finished (r .output .«guard_type») (running (r .output) (makesGuard r) block)))
-        ≡ outputField (r .«copy_mask») found (given (r .output) i (guardBy (r .output) block))
+        → outputField (r .«copy_mask») found (computedField (r .output) i (guardValue (r .output .«guard_type») (running (r .output) (makesGuard r) block)))
+        ≡ outputField (r .«copy_mask») found (computedField (r .output) i (guardBy (r .output) block))
     unfolding makesGuard
     made-right s = go (eqb (r .«copy_mask» / 64 % 4) 3) refl
       where
         go : (t : Bool) → eqb (r .«copy_mask» / 64 % 4) 3 ≡ t
-            → outputField (r .«copy_mask») found (given (r .output) i (finished (r .output .«guard_type») (running (r .output) (makesGuard r) block)))
-            ≡ outputField (r .«copy_mask») found (given (r .output) i (guardBy (r .output) block))
+            → outputField (r .«copy_mask») found (computedField (r .output) i (guardValue (r .output .«guard_type») (running (r .output) (makesGuard r) block)))
+            ≡ outputField (r .«copy_mask») found (computedField (r .output) i (guardBy (r .output) block))
         go true e = uncopied found (r .output) i (r .«copy_mask») (eqb-true (r .«copy_mask» / 64 % 4) 3 e) _ _
         go false e = rw (s, e, right-guard (r .output) (m .outSeed s))
 
+  -- In these laws the current unit is whole.
   module _ (slot : Slot) (xs : List ℕ) (b : Bytes xs) (p : Progress) (out : List ℕ) (R : Reached r slot xs p out) (w : p .input .at ≡ inUnit r) where
+    -- The block of the current unit is its first bytes.
     block-now : inputBlock r (R .past ++ R .left) (p .input .index) ≡ take (inBlock r) (R .left)
     unfolding inputBlock
-    block-now = rw (drop-at (R .past) (R .left) (p .input .index * inUnit r) (R .behind))
+    block-now = rw (drop-at (R .past) (R .left) (p .input .index * inUnit r) (R .pastLength))
 
     field-length : length (drop (inBlock r) (R .left)) ≡ fieldSize (r .input)
     field-length = length-drop (inBlock r) (R .left) ∙ omega (arith, R .under)
 
+    -- The field of the current unit is its bytes after the block.
     field-now : inputField r (R .past ++ R .left) (p .input .index) ≡ drop (inBlock r) (R .left)
     unfolding inputField
     field-now =
-        window-second (p .input .index * inUnit r) (fieldSize (r .input)) (inBlock r) (R .past) (R .left) (R .behind)
+        window-second (p .input .index * inUnit r) (fieldSize (r .input)) (inBlock r) (R .past) (R .left) (R .pastLength)
         ∙ take-all (fieldSize (r .input)) (drop (inBlock r) (R .left)) (omega (arith, field-length))
 
-    -- with a signature the held bytes are the field's
+    -- If the input is signed, the held bytes are those of the field.
     held-now : signed (r .input) ≡ true → p .held ≡ drop (inBlock r) (R .left)
     unfolding fieldSize
     held-now s =
@@ -97,6 +103,7 @@ module _ (r : Rule) (m : Matched r) where
     unfolding inputField fieldSize
     no-field s = rw s
 
+    -- The held bytes hold the field that the transfer rule finds, whether the input is signed or not.
     found-now : fieldOf (p .held) ≡ fieldOf (inputField r (R .past ++ R .left) (p .input .index))
     found-now = go (signed (r .input)) refl
       where
@@ -107,6 +114,7 @@ module _ (r : Rule) (m : Matched r) where
     block-bytes : Bytes (take (inBlock r) (R .left))
     block-bytes = bytes-take (inBlock r) (R .left) (bytes-after (R .past) (R .left) (rw (R .split) at b))
 
+    -- The error of the current unit is that of the transfer rule.
     error-now : errorDue r p ≡ errorOf r (R .past ++ R .left) (p .input .index)
     unfolding errorDue errorBy
     error-now = go (signed (r .input)) refl
@@ -117,19 +125,21 @@ module _ (r : Rule) (m : Matched r) where
             (ap (slotOf (p .input .index * inUnit r)) (judged-right (take (inBlock r) (R .left)) block-bytes (p .input .index) (fieldOf (p .held)) s))
         go false s = rw s
 
-    due-now : fieldDue r p ≡ fieldBehind r (R .past ++ R .left) (p .input .index) (take (inBlock r) (R .left))
-    unfolding fieldMade fieldBehind
+    -- The output field of the current unit is that of the transfer rule.
+    due-now : fieldDue r p ≡ fieldAfter r (R .past ++ R .left) (p .input .index) (take (inBlock r) (R .left))
+    unfolding fieldMade fieldAfter
     due-now = go (signed (r .output)) refl
       where
-        go : (t : Bool) → signed (r .output) ≡ t → fieldDue r p ≡ fieldBehind r (R .past ++ R .left) (p .input .index) (take (inBlock r) (R .left))
+        go : (t : Bool) → signed (r .output) ≡ t → fieldDue r p ≡ fieldAfter r (R .past ++ R .left) (p .input .index) (take (inBlock r) (R .left))
         go true s =
             rw (s, R .index, R .outGuard, ← found-now)
             (ap bytesOf (made-right (take (inBlock r) (R .left)) block-bytes (p .input .index) (fieldOf (p .held)) s))
         go false s = rw s
 
     all-units : p .input .index * inUnit r ≤ length (R .past)
-    all-units = omega (arith, R .behind)
+    all-units = omega (arith, R .pastLength)
 
+    -- At the start of the next unit, the engine is where the transfer rule says.
     reached-next : Reached r slot xs
         (record {
           input = sideAt (r .input) (p .input .index + 1);
@@ -141,7 +151,7 @@ module _ (r : Rule) (m : Matched r) where
       past = R .past ++ R .left;
       left = [];
       split = R .split ∙ sym (append-nil (R .past ++ R .left));
-      behind = length-append (R .past) (R .left) ∙ rw (add-one (p .input .index), suc-mul (p .input .index) (inUnit r)) (omega (arith, R .behind, R .under));
+      pastLength = length-append (R .past) (R .left) ∙ rw (add-one (p .input .index), suc-mul (p .input .index) (inUnit r)) (omega (arith, R .pastLength, R .under));
       under = refl;
       within = omega arith;
       index = ap (λ (n : ℕ). n + 1) (R .index);
@@ -160,7 +170,8 @@ module _ (r : Rule) (m : Matched r) where
           (rw (block-now, ← due-now, R .shown) (append-assoc (joined _++_ [] (unitOut r (R .past)) 0 (p .input .index)) (take (inBlock r) (R .left)) (fieldDue r p))));
     }
 
-  -- Settled, the progress is within its unit, and all is as the transfer rule says.
+  -- After the unit is closed if it is whole, the engine is where the transfer rule says, and the current unit is not
+  -- whole.
   pub reached-settled : (slot : Slot) (xs : List ℕ) → Bytes xs → (p : Progress) (out : List ℕ) → Reached r slot xs p out
       → Reached r slot xs (settled r p) (out ++ placed r p) × (settled r p .input .at < inUnit r)
   unfolding settled

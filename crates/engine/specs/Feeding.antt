@@ -1,40 +1,58 @@
 -- What the engine does, one byte of the input stream after the other. `proofs/` shows that it is the transfer rule.
+--
+--   checksGuard r, makesGuard r    the input guard, the output guard is computed
+--   sideAt d i                     the start of block i
+--   sideAfter d computes s b       a side after one data byte
+--   arrived r p b                  the progress after a byte, before its unit is closed
+--   whole r p                      the input unit is whole
+--   fieldMade r p, fieldDue r p    the output field of the current unit
+--   errorDue r p                   the error of the current unit
+--   nextUnit r p                   the progress at the start of the next unit
+--   settled r p                    the next unit if the current one is whole
+--   placed r p, shown r p b        what is stored when a unit is closed, and when a byte arrives
+--   fed r p bytes                  the progress after these bytes
+--   emitted r p bytes              the output bytes stored for them
+--   begun r slot                   the progress before the first byte
 use mathlib.Core.Bool.{Bool, _&&_, not, cond}
 use mathlib.Core.List.{List, [], _∷_, _++_}
 use Prim.Native.Nat.{ℕ, _+_, _-_, _/_, _%_}
-use lib.Dec.{eqb, ltb}
+use lib.Dec.{eqb, ltb, leb}
 use lib.ListN.{set}
-use Rattle.guard.specs.Guards.{started, stepped, finished}
+use Rattle.guard.specs.Guards.{started, stepped, guardValue}
 use Rattle.field.specs.declared.Domain.{Domain}
 use Rattle.field.specs.Domains.{signed}
-use Rattle.field.specs.Fields.{bytesOf, fieldOf, given}
+use Rattle.field.specs.Fields.{lowestGuardBit, bytesOf, fieldOf, computedField}
 use Rattle.field.specs.Output.{outputField}
-use Rattle.key.specs.declared.Slot.{Slot}
-use Rattle.key.specs.Keys.{keep}
+use Rattle.slot.specs.declared.Slot.{Slot}
+use Rattle.slot.specs.Slots.{keep}
 use Rattle.engine.specs.declared.Rule.{Rule}
 use Rattle.engine.specs.declared.Side.{Side}
 use Rattle.engine.specs.declared.Progress.{Progress}
 use Rattle.engine.specs.Streams.{inBlock, inUnit}
 use Rattle.engine.specs.Transfers.{errorBy}
 
--- the input guard is worked out where a guard byte is checked
-unfoldable pub checksGuard : Rule → Bool
-checksGuard r = signed (r .input) && ltb 63 (r .«check_mask»)
+-- The input guard is computed if a guard byte is checked.
+unfoldable pub checksGuard : (r : Rule) → Bool
+checksGuard r = signed (r .input) && leb lowestGuardBit (r .«check_mask»)
 
--- the output guard is worked out where a guard byte is generated
-unfoldable pub makesGuard : Rule → Bool
-makesGuard r = signed (r .output) && not (eqb (r .«copy_mask» / 64 % 4) 3)
+-- The output guard is computed if a guard byte is generated, that is unless both guard bits of the copy mask are set.
+unfoldable pub makesGuard : (r : Rule) → Bool
+makesGuard r = signed (r .output) && not (eqb (r .«copy_mask» / lowestGuardBit % 4) 3)
 
--- the start of block i of a domain's stream
-abbrev pub sideAt : Domain → ℕ → Side
+-- The start of block i of a domain's stream.
+abbrev pub sideAt : (d : Domain) (i : ℕ) → Side
 sideAt d i = record { index = i; at = 0; guard = started (d .seed) }
 
--- a side after one data byte
-abbrev pub sideAfter : Domain → Bool → Side → ℕ → Side
-sideAfter d works s b = record { index = s .index; at = s .at + 1; guard = cond works (stepped (d .«guard_type») (s .guard) b) (s .guard) }
+-- A side after one data byte.
+abbrev pub sideAfter : (d : Domain) (computes : Bool) (s : Side) (b : ℕ) → Side
+sideAfter d computes s b = record {
+  index = s .index;
+  at = s .at + 1;
+  guard = cond computes (stepped (d .«guard_type») (s .guard) b) (s .guard);
+}
 
 -- A byte arrives: as data, for both sides, or as a byte of the input field, which is held.
-unfoldable pub arrived : Rule → Progress → ℕ → Progress
+unfoldable pub arrived : (r : Rule) (p : Progress) (b : ℕ) → Progress
 arrived r p b =
     cond (ltb (p .input .at) (inBlock r))
     (record {
@@ -50,25 +68,27 @@ arrived r p b =
       slot = p .slot;
     })
 
--- the input unit is whole
-abbrev pub whole : Rule → Progress → Bool
+-- The input unit is whole.
+abbrev pub whole : (r : Rule) (p : Progress) → Bool
 whole r p = eqb (p .input .at) (inUnit r)
 
--- the output field of the unit under way
-unfoldable pub fieldMade : Rule → Progress → List ℕ
+-- The output field of the current unit.
+unfoldable pub fieldMade : (r : Rule) (p : Progress) → List ℕ
 fieldMade r p =
-    bytesOf (outputField (r .«copy_mask») (fieldOf (p .held)) (given (r .output) (p .output .index) (finished (r .output .«guard_type») (p .output .guard))))
+    bytesOf
+    (outputField (r .«copy_mask») (fieldOf (p .held))
+    (computedField (r .output) (p .output .index) (guardValue (r .output .«guard_type») (p .output .guard))))
 
--- it is placed where the output is signed
-abbrev pub fieldDue : Rule → Progress → List ℕ
+-- It is stored if the output is signed.
+abbrev pub fieldDue : (r : Rule) (p : Progress) → List ℕ
 fieldDue r p = cond (signed (r .output)) (fieldMade r p) []
 
--- the error of the unit under way
-unfoldable pub errorDue : Rule → Progress → Slot
-errorDue r p = errorBy r (p .input .index) (finished (r .input .«guard_type») (p .input .guard)) (p .held)
+-- The error of the current unit.
+unfoldable pub errorDue : (r : Rule) (p : Progress) → Slot
+errorDue r p = errorBy r (p .input .index) (guardValue (r .input .«guard_type») (p .input .guard)) (p .held)
 
--- The next unit: the one under way is judged, the first error is kept, and the next blocks begin.
-abbrev pub nextUnit : Rule → Progress → Progress
+-- The next unit: the current one is judged, the first error is kept, and the next blocks begin.
+abbrev pub nextUnit : (r : Rule) (p : Progress) → Progress
 nextUnit r p = record {
   input = sideAt (r .input) (p .input .index + 1);
   output = sideAt (r .output) (p .output .index + 1);
@@ -76,30 +96,30 @@ nextUnit r p = record {
   slot = keep (p .slot) (errorDue r p);
 }
 
--- where the input unit is whole, the next begins
-unfoldable pub settled : Rule → Progress → Progress
+-- If the input unit is whole, the next begins.
+unfoldable pub settled : (r : Rule) (p : Progress) → Progress
 settled r p = cond (whole r p) (nextUnit r p) p
 
--- what is placed where the input unit is whole
-abbrev pub placed : Rule → Progress → List ℕ
+-- What is stored if the input unit is whole.
+abbrev pub placed : (r : Rule) (p : Progress) → List ℕ
 placed r p = cond (whole r p) (fieldDue r p) []
 
--- what is placed as a byte arrives
-abbrev pub shown : Rule → Progress → ℕ → List ℕ
+-- What is stored as a byte arrives.
+abbrev pub shown : (r : Rule) (p : Progress) (b : ℕ) → List ℕ
 shown r p b = cond (ltb (p .input .at) (inBlock r)) (b ∷ []) []
 
--- the progress after these bytes
-unfoldable pub fed : Rule → Progress → List ℕ → Progress
+-- The progress after these bytes.
+unfoldable pub fed : (r : Rule) (p : Progress) (bytes : List ℕ) → Progress
 fed r p [] = p
 fed r p (b ∷ bytes) = fed r (settled r (arrived r p b)) bytes
 
--- the output bytes placed on the way
-unfoldable pub emitted : Rule → Progress → List ℕ → List ℕ
+-- The output bytes stored for these bytes.
+unfoldable pub emitted : (r : Rule) (p : Progress) (bytes : List ℕ) → List ℕ
 emitted r p [] = []
 emitted r p (b ∷ bytes) = (shown r p b ++ placed r (arrived r p b)) ++ emitted r (settled r (arrived r p b)) bytes
 
--- the progress before the first byte, with the slot as it is
-abbrev pub begun : Rule → Slot → Progress
+-- The progress before the first byte, with this slot.
+abbrev pub begun : (r : Rule) (slot : Slot) → Progress
 begun r slot = record {
   input = sideAt (r .input) 0;
   output = sideAt (r .output) 0;

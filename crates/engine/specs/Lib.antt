@@ -1,5 +1,5 @@
 pub mod Streams
 pub mod Transfers
 pub mod Feeding
-pub mod Standing
-pub mod Parts
+pub mod Positions
+pub mod Inner

@@ -1,20 +1,21 @@
-// The transfer rule's engine: bytes of the input stream in, bytes of the output stream placed through a layout. It does
-// not know which side is memory.
+// The engine of the transfer rule: it takes bytes of the input stream and stores bytes of the output stream through a
+// layout. It does not know which side is memory, and it knows no key.
 mod parts;
 mod sides;
 mod stream;
-mod whole;
+mod unit;
 
 use field::Domain;
-use guard::Running;
-use key::Slot;
+use field::FIELD_SIZE;
+use guard::RunningGuard;
 use layout::Cursor;
 pub use sides::taken;
 pub use sides::written;
+use slot::Slot;
 pub use stream::feed;
 pub use stream::in_step;
 
-// What a transfer goes by. The copy mask is the one in force, given or automatic.
+// The settings of a transfer. The copy mask is the one in force, configured or automatic.
 pub struct Rule {
     pub input: Domain,
     pub output: Domain,
@@ -22,23 +23,24 @@ pub struct Rule {
     pub copy_mask: u8,
 }
 
-// Where a domain's stream stands: the block under way, how far into its unit, and its running guard.
+// The position in a domain's stream: the number of the current block, the offset in its unit, and the running guard.
 pub struct Side {
     pub index: u64,
     pub at: u64,
-    pub guard: Running,
+    pub guard: RunningGuard,
 }
 
-// A transfer under way. Of the input unit's field the bytes that have come are held; data goes on at once.
+// A transfer in progress. The field bytes of the current input unit are held until the unit is whole; data bytes are
+// stored at once.
 pub struct Progress {
     pub input: Side,
     pub output: Side,
-    pub held: [u8; 8],
+    pub held: [u8; FIELD_SIZE],
     pub slot: Slot,
 }
 
-// What feeding answers: how far the transfer is, and where its next output byte goes.
-pub struct Fed {
+// What feeding returns: the progress, and the cursor at which the next output byte goes.
+pub struct FeedResult {
     pub progress: Progress,
     pub cursor: Cursor,
 }
@@ -46,13 +48,13 @@ pub struct Fed {
 ghost use mathlib.Core.Path.{_≡_};
 ghost use Rattle.engine.specs.Feeding.{begun};
 
-// The progress before the first byte.
+// Returns the progress before the first byte.
 pub fn begin(rule: Rule, slot: Slot) -> Progress
     ensures { λ r. ⌜ r ≡ begun rule slot ⌝ }
 {
     Progress {
-        input: sides::at_block(rule.input, 0),
-        output: sides::at_block(rule.output, 0),
+        input: sides::block_start(rule.input, 0),
+        output: sides::block_start(rule.output, 0),
         held: [0, 0, 0, 0, 0, 0, 0, 0],
         slot,
     }

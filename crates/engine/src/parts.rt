@@ -1,25 +1,38 @@
-// A part of the input stream that ends within its block or within its field.
+// Takes a part of the input stream: bytes that all lie in one block's data or in one field.
 ghost use mathlib.Core.Path.{_≡_};
-ghost use Prim.Native.Nat.{_+_, _≤_, _^_};
+ghost use Prim.Native.Nat.{_+_, _≤_};
 ghost use lib.ListN.{length};
 ghost use lib.Seq.{sets};
-ghost use Rattle.engine.specs.Parts.{dataTaken, fieldTaken, Holds};
+ghost use Rattle.guard.specs.Guards.{partLimit};
+ghost use Rattle.field.specs.Fields.{fieldBytes};
+ghost use Rattle.engine.specs.Inner.Parts.{dataTaken, fieldTaken, Holds};
 use crate::Progress;
 use crate::Rule;
 use crate::sides;
+use field::FIELD_SIZE;
 
-// The progress with some of the block's data more.
+// Returns the progress after some data bytes of the current block.
 pub(crate) fn take_data(rule: Rule, p: Progress, part: &[u8]) -> Progress
-    requires { ⌜ (length (now part) ≤ 2 ^ 32) × (p .input .at ≤ 2 ^ 32) × (p .output .at ≤ 2 ^ 32) ⌝ }
+    requires { ⌜ (length (now part) ≤ partLimit) × (p .input .at ≤ partLimit) × (p .output .at ≤ partLimit) ⌝ }
     ensures { λ r. ⌜ r ≡ dataTaken rule p (now (part .entry)) ⌝ }
 {
     let slot = p.slot;
     let held = p.held;
     let n = part.len() as u64;
-    let checked = sides::advance(rule.input, sides::checks_guard(rule), p.input.guard, part);
-    let made = sides::advance(rule.output, sides::makes_guard(rule), p.output.guard, part);
-    let input = sides::further(p.input, n, checked);
-    let output = sides::further(p.output, n, made);
+    let checked = sides::advance_if_needed(
+        rule.input,
+        sides::checks_guard(rule),
+        p.input.guard,
+        part,
+    );
+    let made = sides::advance_if_needed(
+        rule.output,
+        sides::makes_guard(rule),
+        p.output.guard,
+        part,
+    );
+    let input = sides::side_after(p.input, n, checked);
+    let output = sides::side_after(p.output, n, made);
     Progress {
         input,
         output,
@@ -28,7 +41,7 @@ pub(crate) fn take_data(rule: Rule, p: Progress, part: &[u8]) -> Progress
     }
 }
 
-// The progress with some of the field more.
+// Returns the progress after some bytes of the current field.
 pub(crate) fn take_field(rule: Rule, p: Progress, part: &[u8]) -> Progress
     requires { ⌜ Holds rule p (length (now part)) ⌝ }
     ensures { λ r. ⌜ r ≡ fieldTaken rule p (now (part .entry)) ⌝ }
@@ -40,7 +53,7 @@ pub(crate) fn take_field(rule: Rule, p: Progress, part: &[u8]) -> Progress
     let came = p.held;
     let from = before.at - sides::block_size(rule.input, rule.output);
     let held = hold(came, from as usize, part);
-    let input = sides::further(before, part.len() as u64, guard);
+    let input = sides::side_after(before, part.len() as u64, guard);
     Progress {
         input,
         output,
@@ -49,8 +62,9 @@ pub(crate) fn take_field(rule: Rule, p: Progress, part: &[u8]) -> Progress
     }
 }
 
-fn hold(held: [u8; 8], from: usize, part: &[u8]) -> [u8; 8]
-    requires { ⌜ from + length (now part) ≤ 8 ⌝ }
+// Returns the held bytes with these stored from an index on.
+fn hold(held: [u8; FIELD_SIZE], from: usize, part: &[u8]) -> [u8; FIELD_SIZE]
+    requires { ⌜ from + length (now part) ≤ fieldBytes ⌝ }
     ensures { λ r. ⌜ r ≡ sets held from (now (part .entry)) ⌝ }
 {
     let mut all = held;

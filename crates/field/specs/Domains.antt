@@ -1,28 +1,82 @@
 -- What a domain says of its blocks (01, "The protection field").
+--
+--   t10Dif, blockSizeStep, blockSizeMin, blockSizeMax, guardTypeMax, seedOnes    numbers of the rule book
+--   remapFlag, escapeByApplicationFlag, escapeByBothFlag, flagsMax    domain flags
+--   signed d                   the domain has a signature
+--   unsignedDomain             a domain without one
+--   remaps d                   the reference tag counts up with each block
+--   escapesByApplication d     the application tag alone escapes a block
+--   escapesByBoth d            the application tag and the reference tag together escape a block
+--   referenceTag d i           the reference tag of block i
 use mathlib.Core.Bool.{Bool, cond}
 use Prim.Native.Nat.{ℕ, _+_, _%_, _^_}
 use lib.Dec.{eqb}
 use Rattle.field.specs.declared.Domain.{Domain}
 use Rattle.field.specs.Tests.{bit}
 
--- a domain of kind 1 is T10-DIF, one of kind 0 has no signature
-abbrev pub signed : Domain → Bool
-signed d = eqb (d .kind) 1
+-- The kind of a domain with a signature. Kind 0 has none.
+abbrev pub t10Dif : ℕ
+t10Dif = 1
 
--- a domain without a signature, all its other numbers 0
-abbrev pub noDomain : Domain
-noDomain = record { kind = 0; «block_size» = 0; «guard_type» = 0; «reference_tag» = 0; seed = 0; «application_tag» = 0; flags = 0 }
+-- A block size is a multiple of the step, from the smallest to the largest.
+abbrev pub blockSizeStep : ℕ
+blockSizeStep = 8
 
--- 01's domain flags, house values: 1 remap, 2 application escape, 4 application-and-reference escape
-abbrev pub remaps : Domain → Bool
-remaps d = bit (d .flags) 1
+abbrev pub blockSizeMin : ℕ
+blockSizeMin = 8
 
-abbrev pub escapesByApplication : Domain → Bool
-escapesByApplication d = bit (d .flags) 2
+abbrev pub blockSizeMax : ℕ
+blockSizeMax = 4160
 
-abbrev pub escapesByBoth : Domain → Bool
-escapesByBoth d = bit (d .flags) 4
+-- The guard types are 0 (CRC) and 1 (checksum).
+abbrev pub guardTypeMax : ℕ
+guardTypeMax = 1
 
--- The reference tag of block i: the configured tag, under remap plus i modulo 4,294,967,296. The modulus is of the whole sum.
-unfoldable pub referenceTag : Domain → ℕ → ℕ
+-- A guard starts from seed 0 or from this one.
+abbrev pub seedOnes : ℕ
+seedOnes = 0xFFFF
+
+-- 01's values of the domain flags, and their sum.
+abbrev pub remapFlag : ℕ
+remapFlag = 1
+
+abbrev pub escapeByApplicationFlag : ℕ
+escapeByApplicationFlag = 2
+
+abbrev pub escapeByBothFlag : ℕ
+escapeByBothFlag = 4
+
+abbrev pub flagsMax : ℕ
+flagsMax = 7
+
+-- A domain of kind 1 is T10-DIF; one of kind 0 has no signature.
+abbrev pub signed : (d : Domain) → Bool
+signed d = eqb (d .kind) t10Dif
+
+-- A domain without a signature, all its other numbers 0.
+abbrev pub unsignedDomain : Domain
+unsignedDomain = record {
+  kind = 0;
+  «block_size» = 0;
+  «guard_type» = 0;
+  «reference_tag» = 0;
+  seed = 0;
+  «application_tag» = 0;
+  flags = 0;
+}
+
+-- The reference tag counts up with each block.
+abbrev pub remaps : (d : Domain) → Bool
+remaps d = bit (d .flags) remapFlag
+
+-- The application tag alone escapes a block.
+abbrev pub escapesByApplication : (d : Domain) → Bool
+escapesByApplication d = bit (d .flags) escapeByApplicationFlag
+
+-- The application tag and the reference tag together escape a block.
+abbrev pub escapesByBoth : (d : Domain) → Bool
+escapesByBoth d = bit (d .flags) escapeByBothFlag
+
+-- The reference tag of block i: the configured tag, under remap plus i modulo 2^32. The modulus is of the whole sum.
+unfoldable pub referenceTag : (d : Domain) (i : ℕ) → ℕ
 referenceTag d i = cond (remaps d) ((d .«reference_tag» + i) % 2 ^ 32) (d .«reference_tag»)

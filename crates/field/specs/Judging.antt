@@ -1,62 +1,84 @@
 -- Checking a found field (01, "The transfer rule", "Escape" and "Error slot").
+--
+--   escapeApplicationTag, escapeReferenceTag    the tags that escape a block
+--   escaped d found                     the found field escapes its block
+--   checkedMask d mask found            the bytes to check
+--   differs checks found computed       which of the checked bytes differ
+--   differing mask found computed       the set of differing checked bytes, as a mask
+--   mismatch tag computed found         a wrong tag with both its values
+--   firstBad set computed found         the first wrong tag, given the set of differing bytes
+--   judged d mask i guard found         the judgement of the field found after block i
 use mathlib.Core.Bool.{Bool, true, false, _&&_, _||_, not, cond}
 use mathlib.Core.List.{List, [], _∷_}
 use Prim.Native.Nat.{ℕ, _+_, _*_, _%_}
-use lib.Dec.{eqb, ltb}
+use lib.Dec.{eqb, ltb, leb}
 use Rattle.field.specs.declared.Domain.{Domain}
 use Rattle.field.specs.declared.ProtectionField.{ProtectionField}
 use Rattle.field.specs.declared.Mismatch.{Mismatch}
 use Rattle.field.specs.declared.Judgement.{Judgement}
 use Rattle.field.specs.declared.Judgement.the-variants.{Good, Bad}
-use Rattle.field.specs.declared.Part.{Part}
-use Rattle.field.specs.declared.Part.the-variants.{Guard, Application, Reference}
+use Rattle.field.specs.declared.Tag.{Tag}
+use Rattle.field.specs.declared.Tag.the-variants.{Guard, Application, Reference}
 use Rattle.field.specs.Domains.{escapesByApplication, escapesByBoth}
-use Rattle.field.specs.Fields.{bytesOf, bytesIn, given}
+use Rattle.field.specs.Fields.{lowestGuardBit, lowestApplicationBit, bytesOf, bytesIn, computedField}
 
--- The escape (000): the application field reads 0xFFFF, and under flag 4 the reference field 0xFFFFFFFF. The field is read whole.
-unfoldable pub escaped : Domain → ProtectionField → Bool
+-- The tags that escape a block.
+abbrev pub escapeApplicationTag : ℕ
+escapeApplicationTag = 0xFFFF
+
+abbrev pub escapeReferenceTag : ℕ
+escapeReferenceTag = 0xFFFFFFFF
+
+-- The escape (000): the application tag reads 0xFFFF, and under flag 4 the reference tag 0xFFFFFFFF. The field is read
+-- whole, whatever the check mask.
+unfoldable pub escaped : (d : Domain) (found : ProtectionField) → Bool
 escaped d found =
-    eqb (found .application) 0xFFFF &&
-    (escapesByApplication d || (escapesByBoth d && eqb (found .reference) 0xFFFFFFFF))
+    eqb (found .application) escapeApplicationTag &&
+    (escapesByApplication d || (escapesByBoth d && eqb (found .reference) escapeReferenceTag))
 
--- the bytes to be checked: of an escaped block all but the guard's
-unfoldable pub checked : Domain → ℕ → ProtectionField → ℕ
-checked d mask found = cond (escaped d found) (mask % 64) mask
+-- The bytes to check, as a mask: of an escaped block all but the guard's.
+unfoldable pub checkedMask : (d : Domain) (mask : ℕ) (found : ProtectionField) → ℕ
+checkedMask d mask found = cond (escaped d found) (mask % lowestGuardBit) mask
 
--- which of the checked bytes differ
-unfoldable pub differs : List Bool → List ℕ → List ℕ → List Bool
+-- Which of the checked bytes differ.
+unfoldable pub differs : (checks : List Bool) (found computed : List ℕ) → List Bool
 differs [] xs ys = []
 differs (c ∷ cs) [] ys = []
 differs (c ∷ cs) (x ∷ xs) [] = []
 differs (c ∷ cs) (x ∷ xs) (y ∷ ys) = (c && not (eqb x y)) ∷ differs cs xs ys
 
--- a bit as a number
-abbrev pub digit : Bool → ℕ
+-- A bit as a number.
+abbrev pub digit : (b : Bool) → ℕ
 digit true = 1
 digit false = 0
 
--- a set of bytes as a mask, in 01's bit order, behind the digits n
-unfoldable pub maskOf : ℕ → List Bool → ℕ
+-- A set of bytes as a mask, in 01's bit order, after the digits n.
+unfoldable pub maskOf : (n : ℕ) (set : List Bool) → ℕ
 maskOf n [] = n
 maskOf n (b ∷ bs) = maskOf (n * 2 + digit b) bs
 
--- the set of differing checked bytes, as a mask
-unfoldable pub differing : ℕ → ProtectionField → ProtectionField → ℕ
-differing mask found right = maskOf 0 (differs (bytesIn mask) (bytesOf found) (bytesOf right))
+-- The set of differing checked bytes, as a mask.
+unfoldable pub differing : (mask : ℕ) (found computed : ProtectionField) → ℕ
+differing mask found computed = maskOf 0 (differs (bytesIn mask) (bytesOf found) (bytesOf computed))
 
--- the whole of a part, unmasked: actual is what the rule gives, expected what was found
-abbrev pub mismatch : Part → ProtectionField → ProtectionField → Mismatch
-mismatch Guard right found = record { part = Guard; actual = right .guard; expected = found .guard }
-mismatch Application right found = record { part = Application; actual = right .application; expected = found .application }
-mismatch Reference right found = record { part = Reference; actual = right .reference; expected = found .reference }
+-- The whole of a tag, unmasked: actual is what the rule computes, expected what was found.
+abbrev pub mismatch : (tag : Tag) (computed found : ProtectionField) → Mismatch
+mismatch Guard computed found =
+    record { tag = Guard; actual = computed .guard; expected = found .guard }
+mismatch Application computed found =
+    record { tag = Application; actual = computed .application; expected = found .application }
+mismatch Reference computed found =
+    record { tag = Reference; actual = computed .reference; expected = found .reference }
 
--- The first bad part by the set of differing bytes: bits 7 and 6 are the guard's, 5 and 4 the application tag's, the others the reference tag's.
-unfoldable pub firstBad : ℕ → ProtectionField → ProtectionField → Judgement
-firstBad set right found =
-    cond (ltb 63 set) (Bad (mismatch Guard right found))
-    (cond (ltb 15 (set % 64)) (Bad (mismatch Application right found))
-    (cond (ltb 0 (set % 16)) (Bad (mismatch Reference right found)) Good))
+-- The first wrong tag, given the set of differing bytes: bits 7 and 6 are the guard's, 5 and 4 the application tag's,
+-- the others the reference tag's.
+unfoldable pub firstBad : (set : ℕ) (computed found : ProtectionField) → Judgement
+firstBad set computed found =
+    cond (leb lowestGuardBit set) (Bad (mismatch Guard computed found))
+    (cond (leb lowestApplicationBit (set % lowestGuardBit)) (Bad (mismatch Application computed found))
+    (cond (ltb 0 (set % lowestApplicationBit)) (Bad (mismatch Reference computed found)) Good))
 
--- what is wrong with the field found behind block i, whose data has guard g, under a domain and a check mask
-unfoldable pub judged : Domain → ℕ → ℕ → ℕ → ProtectionField → Judgement
-judged d mask i g found = firstBad (differing (checked d mask found) found (given d i g)) (given d i g) found
+-- The judgement of the field found after block i, whose data has this guard, under a domain and a check mask.
+unfoldable pub judged : (d : Domain) (mask i guard : ℕ) (found : ProtectionField) → Judgement
+judged d mask i g found =
+    firstBad (differing (checkedMask d mask found) found (computedField d i g)) (computedField d i g) found

@@ -1,10 +1,12 @@
-// A field between its eight bytes and its three numbers.
+// Converts a field between its eight bytes and its three numbers. High bytes come first.
 ghost use mathlib.Core.Path.{_≡_};
 ghost use Prim.Native.Nat.{_+_, _*_, _/_, _%_};
 ghost use Rattle.field.specs.Fields.{bytesOf, fieldOf, twoBytes};
+use crate::FIELD_SIZE;
 use crate::ProtectionField;
 
-pub fn encode(f: ProtectionField) -> [u8; 8]
+// Returns the eight bytes of a field.
+pub fn encode(f: ProtectionField) -> [u8; FIELD_SIZE]
     ensures { λ r. ⌜ r ≡ bytesOf f ⌝ }
 {
     let high = f.reference / 65536;
@@ -21,37 +23,40 @@ pub fn encode(f: ProtectionField) -> [u8; 8]
     ]
 }
 
-pub fn decode(b: [u8; 8]) -> ProtectionField
+// Returns the field that eight bytes hold.
+pub fn decode(b: [u8; FIELD_SIZE]) -> ProtectionField
     ensures { λ r. ⌜ r ≡ fieldOf b ⌝ }
 {
     ProtectionField {
-        guard: two(b[0], b[1]),
-        application: two(b[2], b[3]),
-        reference: four(two(b[4], b[5]), two(b[6], b[7])),
+        guard: be16(b[0], b[1]),
+        application: be16(b[2], b[3]),
+        reference: be32(be16(b[4], b[5]), be16(b[6], b[7])),
     }
 }
 
-fn two(high: u8, low: u8) -> u16
+// Joins two bytes, high byte first.
+fn be16(high: u8, low: u8) -> u16
     ensures { λ r. ⌜ r ≡ twoBytes high low ⌝ }
 {
     (high as u16) * 256 + (low as u16)
 }
 
-pub(crate) fn four(high: u16, low: u16) -> u32
+// Joins two 16-bit halves, high half first.
+pub(crate) fn be32(high: u16, low: u16) -> u32
     ensures { λ r. ⌜ r ≡ high * 65536 + low ⌝ }
 {
     (high as u32) * 65536 + (low as u32)
 }
 
-// The two high bytes.
-pub(crate) fn upper(x: u32) -> u16
+// Returns the two high bytes.
+pub(crate) fn high_half(x: u32) -> u16
     ensures { λ r. ⌜ r ≡ x / 65536 ⌝ }
 {
     (x / 65536) as u16
 }
 
-// The two low bytes.
-pub(crate) fn lower(x: u32) -> u16
+// Returns the two low bytes.
+pub(crate) fn low_half(x: u32) -> u16
     ensures { λ r. ⌜ r ≡ x % 65536 ⌝ }
 {
     (x % 65536) as u16

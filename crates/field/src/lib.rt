@@ -1,22 +1,69 @@
-// The protection field's rule: what a domain gives, what a check finds, what goes out (01, "The protection field" and
-// "The transfer rule").
+// The protection field: what a domain's rule computes, what a check finds, and what is output (01, "The protection
+// field" and "The transfer rule").
 mod bytes;
 mod judging;
-mod making;
+mod output_field;
 
 pub use bytes::decode;
 pub use bytes::encode;
-pub use judging::differing;
-pub use judging::escaped;
 pub use judging::judge;
-pub use making::copy_mask;
-pub use making::output;
+pub use output_field::copy_mask;
+pub use output_field::merge_fields;
 ghost use mathlib.Core.Path.{_≡_};
 ghost use Rattle.field.specs.Domains as domains;
 ghost use Rattle.field.specs.Fields as fields;
 
-// One side of a transfer: kind 0 has no signature and ignores all its other numbers, kind 1 is T10-DIF. It crosses the
-// border to C as it stands.
+// A field has 8 bytes.
+pub const FIELD_SIZE: usize = 8;
+
+// The kinds of a domain are 0 (no signature) and 1 (T10-DIF).
+pub const T10_DIF: u32 = 1;
+
+// A block size is a multiple of 8 from 8 to 4,160.
+pub const BLOCK_SIZE_STEP: u32 = 8;
+
+pub const BLOCK_SIZE_MIN: u32 = 8;
+
+pub const BLOCK_SIZE_MAX: u32 = 4160;
+
+// The guard types are 0 (CRC) and 1 (checksum).
+pub const GUARD_TYPE_MAX: u32 = 1;
+
+// A guard starts from seed 0 or from this one.
+pub const SEED_ONES: u16 = 0xFFFF;
+
+// Domain flags.
+const REMAP: u32 = 1;
+
+const ESCAPE_BY_APPLICATION: u32 = 2;
+
+const ESCAPE_BY_BOTH: u32 = 4;
+
+pub const FLAGS_MAX: u32 = 7;
+
+// The application tag and the reference tag that escape a block.
+pub const ESCAPE_APPLICATION_TAG: u16 = 0xFFFF;
+
+const ESCAPE_REFERENCE_TAG: u32 = 0xFFFFFFFF;
+
+// The bits of a mask: bit 7 stands for the field's first byte, bit 0 for its last.
+const GUARD_BITS: u8 = 0xC0;
+
+const APPLICATION_BITS: u8 = 0x30;
+
+const REFERENCE_BITS: u8 = 0x0F;
+
+// The lowest bit of each tag but the reference tag's. A mask of that value or more has a bit of the tag or of one
+// before it.
+pub const LOWEST_GUARD_BIT: u8 = 64;
+
+const LOWEST_APPLICATION_BIT: u8 = 16;
+
+// Reference tags count modulo 2^32.
+const REFERENCE_TAGS: u64 = 4294967296;
+
+// One side of a transfer. A domain of kind 0 has no signature, and its other numbers are ignored. C sees this struct as
+// it is.
 #[repr(C)]
 pub struct Domain {
     pub kind: u32,
@@ -28,22 +75,23 @@ pub struct Domain {
     pub flags: u32,
 }
 
-// The eight bytes behind a block, as three numbers.
+// The eight bytes after a block, as three numbers.
 pub struct ProtectionField {
     pub guard: u16,
     pub application: u16,
     pub reference: u32,
 }
 
-pub enum Part {
+// One of the three numbers of a field.
+pub enum Tag {
     Guard,
     Application,
     Reference,
 }
 
-// A part of a found field that is not what the rule gives: actual is what the rule gives, expected what was found.
+// A tag whose found value differs from the computed one. Actual is what the rule computes, expected what was found.
 pub struct Mismatch {
-    pub part: Part,
+    pub tag: Tag,
     pub actual: u32,
     pub expected: u32,
 }
@@ -53,9 +101,9 @@ pub enum Judgement {
     Bad(Mismatch),
 }
 
-// A domain without a signature.
-pub fn unsigned() -> Domain
-    ensures { λ d. ⌜ d ≡ domains.noDomain ⌝ }
+// Returns a domain without a signature.
+pub fn unsigned_domain() -> Domain
+    ensures { λ d. ⌜ d ≡ domains.unsignedDomain ⌝ }
 {
     Domain {
         kind: 0,
@@ -68,32 +116,48 @@ pub fn unsigned() -> Domain
     }
 }
 
+// True if the domain has a signature.
 pub fn signed(d: Domain) -> bool
     ensures { λ r. ⌜ r ≡ domains.signed d ⌝ }
 {
-    d.kind == 1
+    d.kind == T10_DIF
 }
 
-pub fn remaps(d: Domain) -> bool
+// True if the reference tag counts up with each block.
+fn remaps(d: Domain) -> bool
     ensures { λ r. ⌜ r ≡ domains.remaps d ⌝ }
 {
-    d.flags / 1 % 2 == 1
+    d.flags / REMAP % 2 == 1
 }
 
-// The reference tag of block i of a transfer.
-pub fn reference_tag(d: Domain, i: u64) -> u32
+// True if the application tag alone escapes a block.
+pub fn escapes_by_application(d: Domain) -> bool
+    ensures { λ r. ⌜ r ≡ domains.escapesByApplication d ⌝ }
+{
+    d.flags / ESCAPE_BY_APPLICATION % 2 == 1
+}
+
+// True if the application tag and the reference tag together escape a block.
+pub fn escapes_by_both(d: Domain) -> bool
+    ensures { λ r. ⌜ r ≡ domains.escapesByBoth d ⌝ }
+{
+    d.flags / ESCAPE_BY_BOTH % 2 == 1
+}
+
+// Returns the reference tag of block i of a transfer.
+fn reference_tag(d: Domain, i: u64) -> u32
     ensures { λ r. ⌜ r ≡ domains.referenceTag d i ⌝ }
 {
     if remaps(d) {
-        std::num::wrapping_add_u32(d.reference_tag, (i % 4294967296) as u32)
+        std::num::wrapping_add_u32(d.reference_tag, (i % REFERENCE_TAGS) as u32)
     } else {
         d.reference_tag
     }
 }
 
-// The field that the domain's rule gives for block i, whose guard is this one.
-pub fn given(d: Domain, i: u64, guard: u16) -> ProtectionField
-    ensures { λ r. ⌜ r ≡ fields.given d i guard ⌝ }
+// Returns the field that the domain's rule computes for block i, whose data has this guard.
+pub fn compute_field(d: Domain, i: u64, guard: u16) -> ProtectionField
+    ensures { λ r. ⌜ r ≡ fields.computedField d i guard ⌝ }
 {
     ProtectionField {
         guard,

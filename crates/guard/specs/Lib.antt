@@ -1,4 +1,4 @@
 pub mod Crc
 pub mod Checksum
 pub mod Guards
-pub mod Plain
+pub mod Inner

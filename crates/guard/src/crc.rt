@@ -1,8 +1,11 @@
-// The CRC register.
+// Computes the CRC register, bit by bit.
 ghost use mathlib.Core.Path.{_≡_};
 ghost use Rattle.guard.specs.Crc.{timesX, crcByte, crc};
 
-// The register with these bytes entered, one after the other.
+// The generator polynomial without x^16.
+const POLYNOMIAL: u16 = 0x8BB7;
+
+// Returns the register after these bytes.
 pub(crate) fn register(start: u16, bytes: &[u8]) -> u16
     ensures { λ r. ⌜ r ≡ crc start (now (bytes .entry)) ⌝ }
 {
@@ -15,6 +18,7 @@ pub(crate) fn register(start: u16, bytes: &[u8]) -> u16
     r
 }
 
+// Returns the register after one more byte.
 fn enter(r: u16, byte: u8) -> u16
     ensures { λ x. ⌜ x ≡ crcByte r byte ⌝ }
 {
@@ -28,19 +32,20 @@ fn wide(byte: u8) -> u16
     byte as u16
 }
 
+// Returns the register times x^4.
 fn times_x4(r: u16) -> u16
     ensures { λ x. ⌜ x ≡ timesX (timesX (timesX (timesX r))) ⌝ }
 {
     times_x(times_x(times_x(times_x(r))))
 }
 
-// The register moved up by one bit; where the top bit falls out, the polynomial comes back in.
+// Returns the register times x: it moves up by one bit, and if the top bit falls out, the polynomial is added.
 fn times_x(r: u16) -> u16
     ensures { λ x. ⌜ x ≡ timesX r ⌝ }
 {
     if r < 0x8000 {
         r * 2
     } else {
-        ((r - 0x8000) * 2) ^ 0x8BB7
+        ((r - 0x8000) * 2) ^ POLYNOMIAL
     }
 }

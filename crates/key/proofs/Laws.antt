@@ -1,4 +1,4 @@
--- What an accepted configure and an accepted open tell, and which keys come from these calls. Assumes nothing.
+-- Laws about keys: what an accepted configure and an accepted open imply, and which keys come from the calls.
 use mathlib.Core.Path.{_≡_, refl, sym}
 use mathlib.Core.Bool.{Bool, true, false, _&&_, _||_, not, cond}
 use Prim.Native.Nat.{ℕ, _+_, _-_, _*_, _/_, _%_, _≤_, _<_}
@@ -11,27 +11,32 @@ use Rattle.field.specs.declared.Domain.{Domain}
 use Rattle.field.specs.declared.ProtectionField.{ProtectionField}
 use Rattle.field.specs.Domains.{signed, escapesByApplication, escapesByBoth}
 use Rattle.field.specs.Judging.{escaped}
-use Rattle.layout.specs.declared.answer.Verdict.{Verdict}
-use Rattle.layout.specs.declared.answer.Verdict.the-variants.{Sound, Malformed, Outside, Overlapping}
+use Rattle.layout.specs.declared.layout_rules.Verdict.{Verdict}
+use Rattle.layout.specs.declared.layout_rules.Verdict.the-variants.{Sound, Malformed, Outside, Overlapping}
 use Rattle.layout.specs.Pieces.{size, total}
 use Rattle.layout.specs.Answers.{verdictOn, fits}
 use Rattle.layout.proofs.AnswerLaws.{or-false, fits-told}
 use Rattle.layout.proofs.CountLaws.{sound-fits}
-use Rattle.layout.specs.Steps.{Fits}
+use Rattle.layout.specs.Inner.Steps.{Fits}
 use Rattle.key.specs.declared.Signature.{Signature}
 use Rattle.key.specs.declared.Configuration.{Configuration}
 use Rattle.key.specs.declared.Key.{Key}
-use Rattle.key.specs.declared.Slot.{Slot}
-use Rattle.key.specs.declared.Slot.the-variants.{Empty, Holding}
+use Rattle.slot.specs.declared.Slot.{Slot}
+use Rattle.slot.specs.declared.Slot.the-variants.{Empty}
 use Rattle.key.specs.declared.Outcome.{Outcome}
 use Rattle.key.specs.declared.Outcome.the-variants.{Done, Refused}
 use Rattle.key.specs.declared.Refusal.{Refusal}
 use Rattle.key.specs.declared.Refusal.the-variants.{BadDomain, EscapeTag, CopyMask, BlockSizes, MemoryLength, PartialBlock, PastLayout, ShortWire, NotConfigured}
 use Rattle.key.specs.Numbers.{refuse}
-use Rattle.key.specs.Configuring.{badBlockSize, badSeed, badDomain, GoodDomain, escapesAlways, sameSize, bothSigned, signatureAnswer, layoutAnswer, then, configureAnswer}
-use Rattle.key.specs.Keys.{freshKey, withSlot, configuredBy, configuring, checking, keep, CameFromCalls, accepts, usable, Usable}
-use Rattle.key.specs.Streams.{streamLength, Sized}
-use Rattle.key.specs.Admitting.{partial, openAnswer, transferAnswer, Bounded, Blocks, Admitted}
+use Rattle.key.specs.Configuring.{memoryLimit, badBlockSize, badSeed, badDomain, escapesAlways, sameSize, bothSigned, signatureAnswer, layoutAnswer, configureAnswer}
+use Rattle.key.specs.Inner.Admission.{GoodDomain}
+use Rattle.key.specs.Numbers.{then}
+use Rattle.slot.specs.Slots.{keep}
+use Rattle.key.specs.Keys.{freshKey, withSlot, configureResultBy, configureResult, checkResult, CameFromCalls, accepts, keyValid, KeyValid}
+use Rattle.key.specs.Streams.{streamLength}
+use Rattle.key.specs.Inner.Admission.{Sized}
+use Rattle.key.specs.Admitting.{partial, openAnswer, transferAnswer}
+use Rattle.key.specs.Inner.Admission.{Bounded, Blocks, Admitted}
 
 -- ---- tests
 
@@ -39,11 +44,12 @@ not-false : (a : Bool) → not a ≡ false → a ≡ true
 not-false true h = refl
 not-false false h = let z : _≡_ {A = ℕ} 0 1 = cc in absurd (omega arith)
 
+-- `refuse` returns Done only if its test is false and the rest is Done.
 refuse-done : (b : Bool) (r : Refusal) (rest : Outcome) → refuse b r rest ≡ Done → (b ≡ false) × (rest ≡ Done)
 refuse-done true r rest h = let z : _≡_ {A = ℕ} 0 1 = cc in absurd (omega arith)
 refuse-done false r rest h = (refl, h)
 
--- four tests in order, and none holds
+-- Four refusals in order return Done only if none of their tests holds.
 none-of-four :
     (a b c d : Bool) (q r s t : Refusal)
     → refuse a q (refuse b r (refuse c s (refuse d t Done))) ≡ Done
@@ -54,10 +60,12 @@ none-of-four false false true d q r s t h = let z : _≡_ {A = ℕ} 0 1 = cc in 
 none-of-four false false false true q r s t h = let z : _≡_ {A = ℕ} 0 1 = cc in absurd (omega arith)
 none-of-four false false false false q r s t h = (refl, refl, refl, refl)
 
+-- `then` returns Done only if both its outcomes are Done.
 then-done : (a b : Outcome) → then a b ≡ Done → (a ≡ Done) × (b ≡ Done)
 then-done Done b h = (refl, h)
 then-done (Refused r) b h = let z : _≡_ {A = ℕ} 0 1 = cc in absurd (omega arith)
 
+-- Only the verdict Sound has the answer Done.
 layout-done : (v : Verdict) → layoutAnswer v ≡ Done → v ≡ Sound
 layout-done Sound h = refl
 layout-done Malformed h = let z : _≡_ {A = ℕ} 0 1 = cc in absurd (omega arith)
@@ -66,11 +74,11 @@ layout-done Overlapping h = let z : _≡_ {A = ℕ} 0 1 = cc in absurd (omega ar
 
 -- ---- streams
 
--- fields are no longer than the data
+-- If blocks have 8 bytes or more, the fields of a stream have no more bytes than its data.
 pub fields-short : (n b : ℕ) → 8 ≤ b → n / b * 8 ≤ n
 fields-short n b h = omega (arith, div-add-mod' n b, mul-le-mul-left (n / b) h)
 
--- a stream is no shorter than its data
+-- A stream is no shorter than its data.
 pub data-in-stream : (d : Domain) (n : ℕ) → n ≤ streamLength d n
 unfolding streamLength
 data-in-stream d n = go (signed d)
@@ -79,7 +87,8 @@ data-in-stream d n = go (signed d)
     go true = omega arith
     go false = omega arith
 
--- the test that the code makes, which adds nothing to the offset
+-- The code subtracts the stream's length from the total instead of adding it to the offset, and its test has the same
+-- result.
 pub less-offset : (t s x : ℕ) → s ≤ t → ltb (t - s) x ≡ ltb t (x + s)
 less-offset t s x h = go (ltb (t - s) x) refl
   where
@@ -89,7 +98,7 @@ less-offset t s x h = go (ltb (t - s) x) refl
 
 -- ---- an accepted configure
 
--- What an accepted configure tells of a signature: none of 1 to 4 applies.
+-- `Signs s` says that answers 1, 2 and 4 do not apply to the two domains of the signature.
 pub record Signs (s : Signature) : Type 0 where
   pub memory : badDomain (s .memory) ≡ false
   pub wire : badDomain (s .wire) ≡ false
@@ -97,6 +106,7 @@ pub record Signs (s : Signature) : Type 0 where
   pub wire-tag : escapesAlways (s .wire) ≡ false
   pub sizes : bothSigned s && not (sameSize s) ≡ false
 
+-- If the answer to a signature is Done, `Signs` holds for it.
 pub signature-done : (s : Signature) → signatureAnswer s ≡ Done → Signs s
 unfolding signatureAnswer
 signature-done s h =
@@ -116,19 +126,22 @@ signature-done s h =
     let t = or-false (escapesAlways (s .memory)) (escapesAlways (s .wire)) (f .1) in
     record { memory = m .0; wire = w .0; memory-tag = t .0; wire-tag = t .1; sizes = f .3 }
 
--- What an accepted configure over n bytes tells: none of 8, 1 to 4, and 5 to 7 applies.
+-- `Accepts n c` says that a memory of n bytes is within the limit, the answer to the signature is Done, and the layout
+-- is sound.
 pub record Accepts (n : ℕ) (c : Configuration) : Type 0 where
-  pub limit : n ≤ 16777216
+  pub limit : n ≤ memoryLimit
   pub signature : signatureAnswer (c .signature) ≡ Done
   pub sound : verdictOn (c .layout) n ≡ Sound
 
+-- If configure's answer is Done, `Accepts` holds for the configuration.
 pub configure-done : (n : ℕ) (c : Configuration) → configureAnswer n c ≡ Done → Accepts n c
 unfolding configureAnswer
 configure-done n c h =
-    let a = refuse-done (ltb 16777216 n) MemoryLength (then (signatureAnswer (c .signature)) (layoutAnswer (verdictOn (c .layout) n))) h in
+    let a = refuse-done (ltb memoryLimit n) MemoryLength (then (signatureAnswer (c .signature)) (layoutAnswer (verdictOn (c .layout) n))) h in
     let b = then-done (signatureAnswer (c .signature)) (layoutAnswer (verdictOn (c .layout) n)) (a .1) in
-    record { limit = ltb-false 16777216 n (a .0); signature = b .0; sound = layout-done (verdictOn (c .layout) n) (b .1) }
+    record { limit = ltb-false memoryLimit n (a .0); signature = b .0; sound = layout-done (verdictOn (c .layout) n) (b .1) }
 
+-- A seed that is not bad has at most 16 bits.
 seed-small : (n : ℕ) → badSeed n ≡ false → n ≤ 65535
 seed-small n h = go (eqb n 0) (eqb n 0xFFFF) refl refl h
   where
@@ -137,7 +150,7 @@ seed-small n h = go (eqb n 0) (eqb n 0xFFFF) refl refl h
     go false true e f z = omega (arith, eqb-true n 0xFFFF f)
     go false false e f z = let y : _≡_ {A = ℕ} 0 1 = cc in absurd (omega arith)
 
--- what answer 1 leaves of a T10-DIF domain
+-- If answer 1 does not apply to a T10-DIF domain, its numbers are in range.
 pub good-domain : (d : Domain) → badDomain d ≡ false → signed d ≡ true → GoodDomain d
 good-domain d h s =
     let a = or-false (ltb 1 (d .kind)) _ h in
@@ -154,26 +167,26 @@ good-domain d h s =
       seed = seed-small (d .seed) (t .0);
     }
 
--- a domain whose blocks can be counted
+-- If answer 1 does not apply to a domain, its blocks are no shorter than their fields.
 pub sized : (d : Domain) → badDomain d ≡ false → Sized d
 sized d h s = good-domain d h s .least
 
--- ---- keys from these calls
+-- ---- keys from the calls
 
--- a key from these calls is usable
-pub came-usable : (k : Key) → CameFromCalls k → Usable k
-unfolding usable
-came-usable k came = go (k .configured) refl
+-- Every key from the calls is valid.
+pub came-valid : (k : Key) → CameFromCalls k → KeyValid k
+unfolding keyValid
+came-valid k came = go (k .configured) refl
   where
-    go : (b : Bool) → k .configured ≡ b → usable k ≡ true
+    go : (b : Bool) → k .configured ≡ b → keyValid k ≡ true
     go false e = rw e refl
     go true e =
         let g = configure-done (k .«memory_length») (record { signature = k .signature; layout = k .layout }) (came .accepted e) in
-        rw (e, le-ltb 16777216 (k .«memory_length») (g .limit), g .signature, sound-fits (k .layout) (k .«memory_length») (g .sound)) refl
+        rw (e, le-ltb memoryLimit (k .«memory_length») (g .limit), g .signature, sound-fits (k .layout) (k .«memory_length») (g .sound)) refl
 
--- What a configured key holds.
+-- `Held k` says that the key's memory is within the limit, its signature is accepted, and its layout fits the memory.
 pub record Held (k : Key) : Type 0 where
-  pub limit : k .«memory_length» ≤ 16777216
+  pub limit : k .«memory_length» ≤ memoryLimit
   pub signs : Signs (k .signature)
   pub fits : Fits (k .layout) (k .«memory_length»)
   pub bounded : Bounded (k .layout)
@@ -183,47 +196,44 @@ all-three true o b h = let z : _≡_ {A = ℕ} 0 1 = cc in absurd (omega arith)
 all-three false (Refused r) b h = let z : _≡_ {A = ℕ} 0 1 = cc in absurd (omega arith)
 all-three false Done b h = (refl, refl, h)
 
-pub held : (k : Key) → Usable k → k .configured ≡ true → Held k
-unfolding usable
+-- If a valid key is configured, `Held` holds for it.
+pub held : (k : Key) → KeyValid k → k .configured ≡ true → Held k
+unfolding keyValid
 held k u h =
-    let t = all-three (ltb 16777216 (k .«memory_length»)) (signatureAnswer (k .signature)) (fits (k .layout) (k .«memory_length»)) (rw h at u) in
+    let t = all-three (ltb memoryLimit (k .«memory_length»)) (signatureAnswer (k .signature)) (fits (k .layout) (k .«memory_length»)) (rw h at u) in
     let f = fits-told (k .layout) (k .«memory_length») (t .2) in
-    let l = ltb-false 16777216 (k .«memory_length») (t .0) in
-    let b : total (k .layout) ≤ 16777216 = omega (arith, f .small, l) in
+    let l = ltb-false memoryLimit (k .«memory_length») (t .0) in
+    let b : total (k .layout) ≤ memoryLimit = omega (arith, f .small, l) in
     record { limit = l; signs = signature-done (k .signature) (t .1); fits = f; bounded = record { used = f .shaped .used; few = f .shaped .few; small = b } }
 
+-- A fresh key is a key from the calls.
 pub came-fresh : CameFromCalls freshKey
 came-fresh = record { never = λ h. refl; accepted = λ h. let z : _≡_ {A = ℕ} 0 1 = cc in absurd (omega arith) }
 
--- a key from these calls is one after configure, accepted or not
-pub came-configuring : (k : Key) (n : ℕ) (c : Configuration) → CameFromCalls k → CameFromCalls (configuring k n c .key)
-came-configuring k n c came = go (configureAnswer n c) refl
+-- If a key is from the calls, so is the key that configure returns for it, accepted or refused.
+pub came-configured : (k : Key) (n : ℕ) (c : Configuration) → CameFromCalls k → CameFromCalls (configureResult k n c .key)
+came-configured k n c came = go (configureAnswer n c) refl
   where
-    go : (o : Outcome) → configureAnswer n c ≡ o → CameFromCalls (configuredBy o k n c .key)
+    go : (o : Outcome) → configureAnswer n c ≡ o → CameFromCalls (configureResultBy o k n c .key)
     go Done e = record { never = λ h. let z : _≡_ {A = ℕ} 0 1 = cc in absurd (omega arith); accepted = λ h. e }
     go (Refused r) e = came
 
--- with an error recorded
-pub came-record : (k : Key) (s : Slot) → CameFromCalls k → k .configured ≡ true → CameFromCalls (withSlot k s)
-came-record k s came h = record { never = λ e. let z : _≡_ {A = ℕ} 0 1 = cc in absurd (omega arith); accepted = came .accepted }
+-- If a configured key is from the calls, so is the same key with an error recorded in its slot.
+pub came-with-error : (k : Key) (s : Slot) → CameFromCalls k → k .configured ≡ true → CameFromCalls (withSlot k s)
+came-with-error k s came h = record { never = λ e. let z : _≡_ {A = ℕ} 0 1 = cc in absurd (omega arith); accepted = came .accepted }
 
-came-emptied : (k : Key) → CameFromCalls k → CameFromCalls (withSlot k Empty)
-came-emptied k came = record { never = λ e. refl; accepted = came .accepted }
-
--- and after check
-pub came-checking : (k : Key) → CameFromCalls k → CameFromCalls (checking k (k .slot) .key)
-unfolding checking
-came-checking k came = go (k .slot)
-  where
-    go : (s : Slot) → CameFromCalls (checking k s .key)
-    go Empty = came-emptied k came
-    go (Holding e) = came-emptied k came
+-- If a key is from the calls, so is the key that check returns for it.
+pub came-checked : (k : Key) → CameFromCalls k → CameFromCalls (checkResult k .key)
+unfolding checkResult
+came-checked k came = record { never = λ e. refl; accepted = came .accepted }
 
 -- ---- an accepted open
 
+-- If answers 1 and 9 do not apply to a T10-DIF domain, the data is a whole number of its blocks.
 blocks : (d : Domain) (n : ℕ) → badDomain d ≡ false → partial d n ≡ false → signed d ≡ true → Blocks d n
 blocks d n b p s = record { good = good-domain d b s; whole = eqb-true (n % d .«block_size») 0 (not-false (eqb (n % d .«block_size») 0) (rw s at p)) }
 
+-- If both domains are signed and answer 4 does not apply, they have one block size.
 one-size :
     (s : Signature)
     → bothSigned s && not (sameSize s) ≡ false
@@ -232,18 +242,18 @@ one-size :
     → s .memory .«block_size» ≡ s .wire .«block_size»
 one-size s h m w = eqb-true (s .memory .«block_size») (s .wire .«block_size») (not-false (sameSize s) (rw (m, w) at h))
 
--- all that an accepted open tells
-pub admitted : (k : Key) (n x length : ℕ) → Usable k → openAnswer k n x length ≡ Done → Admitted k n x length
+-- If open's answer for a valid key is Done, `Admitted` holds.
+pub admitted : (k : Key) (n x dataLength : ℕ) → KeyValid k → openAnswer k n x dataLength ≡ Done → Admitted k n x dataLength
 unfolding openAnswer
-admitted k n x length u h =
+admitted k n x dataLength u h =
     let m = k .signature .memory in
     let w = k .signature .wire in
     let f =
     none-of-four
     (not (k .configured))
     (not (eqb n (k .«memory_length»)))
-    (partial m length || partial w length)
-    (ltb (total (k .layout)) (x + streamLength m length))
+    (partial m dataLength || partial w dataLength)
+    (ltb (total (k .layout)) (x + streamLength m dataLength))
     NotConfigured
     MemoryLength
     PartialBlock
@@ -251,9 +261,9 @@ admitted k n x length u h =
     h in
     let conf = not-false (k .configured) (f .0) in
     let same = eqb-true n (k .«memory_length») (not-false (eqb n (k .«memory_length»)) (f .1)) in
-    let whole = or-false (partial m length) (partial w length) (f .2) in
+    let whole = or-false (partial m dataLength) (partial w dataLength) (f .2) in
     let g = held k u conf in
-    let fits = ltb-false (total (k .layout)) (x + streamLength m length) (f .3) in
+    let fits = ltb-false (total (k .layout)) (x + streamLength m dataLength) (f .3) in
     record {
       configured = conf;
       lent = same;
@@ -261,34 +271,37 @@ admitted k n x length u h =
       placed = rw same (g .fits .placed);
       bounded = g .bounded;
       inside = fits;
-      short = omega (arith, g .bounded .small, data-in-stream m length);
-      memory = blocks m length (g .signs .memory) (whole .0);
-      wire = blocks w length (g .signs .wire) (whole .1);
+      short = omega (arith, g .bounded .small, data-in-stream m dataLength);
+      memory = blocks m dataLength (g .signs .memory) (whole .0);
+      wire = blocks w dataLength (g .signs .wire) (whole .1);
       alike = one-size (k .signature) (g .signs .sizes);
     }
 
--- an accepted transfer is an accepted open, and its wire buffer holds the wire stream
+-- If a transfer's answer is Done, so is open's, and the wire buffer is no shorter than the wire stream.
 pub transfer-admitted :
-    (k : Key) (n x length w : ℕ) → transferAnswer k n x length w ≡ Done → (openAnswer k n x length ≡ Done) × (streamLength (k .signature .wire) length ≤ w)
+    (k : Key) (n x dataLength w : ℕ) → transferAnswer k n x dataLength w ≡ Done → (openAnswer k n x dataLength ≡ Done) × (streamLength (k .signature .wire) dataLength ≤ w)
 unfolding transferAnswer
-transfer-admitted k n x length w h =
-    let s = streamLength (k .signature .wire) length in
-    let a = then-done (openAnswer k n x length) (refuse (ltb w s) ShortWire Done) h in
+transfer-admitted k n x dataLength w h =
+    let s = streamLength (k .signature .wire) dataLength in
+    let a = then-done (openAnswer k n x dataLength) (refuse (ltb w s) ShortWire Done) h in
     (a .0, ltb-false w s (refuse-done (ltb w s) ShortWire Done (a .1) .0))
 
--- ---- answer 2 shuts the escape to blocks that carry the configured tag
+-- ---- answer 2 and the escape
 
--- What answer 2 leaves of a T10-DIF domain: with an escape flag its tag is not 0xFFFF, and a block that carries its tag is never escaped.
+-- `Shut d` says of a T10-DIF domain that its application tag is not 0xFFFF if it has an escape flag, and that a block
+-- that carries this tag is never escaped.
 pub record Shut (d : Domain) : Type 0 where
   pub tag : signed d ≡ true → escapesByApplication d || escapesByBoth d ≡ true → d .«application_tag» ≡ 0xFFFF → ⊥
   pub never : signed d ≡ true → (found : ProtectionField) → found .application ≡ d .«application_tag» → escaped d found ≡ false
 
+-- If no escape flag is set where the tag is 0xFFFF, a block with this tag is not escaped.
 no-escape : (t a b r : Bool) → (a || b) && t ≡ false → t && (a || (b && r)) ≡ false
 no-escape false a b r h = refl
 no-escape true true b r h = h
 no-escape true false true r h = let z : _≡_ {A = ℕ} 0 1 = cc in absurd (omega arith)
 no-escape true false false r h = refl
 
+-- If answer 2 does not apply to a domain, `Shut` holds for it.
 shut : (d : Domain) → escapesAlways d ≡ false → Shut d
 unfolding escaped
 shut d h = record {
@@ -296,7 +309,7 @@ shut d h = record {
   never = λ s found e. rw e (no-escape (eqb (d .«application_tag») 0xFFFF) (escapesByApplication d) (escapesByBoth d) (eqb (found .reference) 0xFFFFFFFF) (rw s at h));
 }
 
--- both domains of a configuration that configure accepts
+-- `Shut` holds for both domains of a configuration that configure accepts.
 pub escape-shut : (n : ℕ) (c : Configuration) → configureAnswer n c ≡ Done → Shut (c .signature .memory) × Shut (c .signature .wire)
 escape-shut n c h =
     let g = signature-done (c .signature) (configure-done n c h .signature) in
@@ -304,26 +317,16 @@ escape-shut n c h =
 
 -- ---- 01's numbers
 
--- 01: sizes 4,160 accepted; 4,168, 12 and 0 refused with 1
+-- Block size 4,160 is accepted, and block sizes 4,168, 12 and 0 are refused with answer 1, as 01 says.
 pub sizes : (badBlockSize 4160 ≡ false) × (badBlockSize 4168 ≡ true) × (badBlockSize 12 ≡ true) × (badBlockSize 0 ≡ true)
 sizes = (refl, refl, refl, refl)
 
--- a key that was never configured gets 14, whatever else holds
-pub never-configured : (k : Key) (n x length : ℕ) → k .configured ≡ false → openAnswer k n x length ≡ Refused NotConfigured
+-- Open refuses a key that was never configured with answer 14, whatever else holds.
+pub never-configured : (k : Key) (n x dataLength : ℕ) → k .configured ≡ false → openAnswer k n x dataLength ≡ Refused NotConfigured
 unfolding openAnswer
-never-configured k n x length h = rw h
+never-configured k n x dataLength h = rw h
 
--- a memory above the limit gets 8 from configure, whatever else holds
-pub above-limit : (n : ℕ) (c : Configuration) → 16777216 < n → configureAnswer n c ≡ Refused MemoryLength
+-- Configure refuses a memory above the limit with answer 8, whatever else holds.
+pub above-limit : (n : ℕ) (c : Configuration) → memoryLimit < n → configureAnswer n c ≡ Refused MemoryLength
 unfolding configureAnswer
-above-limit n c h = rw (lt-ltb 16777216 n h)
-
--- ---- the slot keeps its first error
-
-pub keep-none : (s : Slot) → keep s Empty ≡ s
-keep-none Empty = refl
-keep-none (Holding e) = refl
-
-pub keep-first : (a b c : Slot) → keep (keep a b) c ≡ keep a (keep b c)
-keep-first Empty b c = refl
-keep-first (Holding e) b c = refl
+above-limit n c h = rw (lt-ltb memoryLimit n h)

@@ -3,3 +3,4 @@ pub mod Configuring
 pub mod Keys
 pub mod Streams
 pub mod Admitting
+pub mod Inner

@@ -1,45 +1,48 @@
-// The tests of a transfer and of open.
+// The tests that admit a transfer or an open.
 ghost use mathlib.Core.Path.{_≡_};
 ghost use Prim.Native.Nat.{_+_};
 ghost use lib.Dec.{ltb};
 ghost use lib.ListN.{length};
 ghost use Rattle.layout.specs.Pieces as pieces;
-ghost use Rattle.key.specs.Streams.{streamLength, Measured, Sized};
+ghost use Rattle.key.specs.Streams.{streamLength};
+ghost use Rattle.key.specs.Inner.Admission.{Measured, Sized};
 ghost use Rattle.key.specs.Admitting as admitting;
-ghost use Rattle.key.specs.Admitting.{Bounded};
-ghost use Rattle.key.specs.Keys.{Usable};
+ghost use Rattle.key.specs.Inner.Admission.{Bounded};
+ghost use Rattle.key.specs.Keys.{KeyValid};
 use crate::Key;
 use crate::Outcome;
 use crate::Refusal;
 use field::Domain;
+use field::FIELD_SIZE;
 use layout::Layout;
 use layout::LayoutOffset;
 
-// How long the domain's stream is for so many data bytes.
-pub fn stream_length(d: Domain, length: u64) -> u64
-    requires { ⌜ Measured d length ⌝ }
-    ensures { λ r. ⌜ r ≡ streamLength d length ⌝ }
+// Returns the length of a domain's stream: the data, and a field after each block if the domain is signed.
+pub fn stream_length(d: Domain, data_length: u64) -> u64
+    requires { ⌜ Measured d «data_length» ⌝ }
+    ensures { λ r. ⌜ r ≡ streamLength d «data_length» ⌝ }
 {
     if field::signed(d) {
-        length + length / d.block_size as u64 * 8
+        data_length + data_length / d.block_size as u64 * FIELD_SIZE as u64
     } else {
-        length
+        data_length
     }
 }
 
-// 9, of one domain.
-fn partial(d: Domain, length: u64) -> bool
+// True if answer 9 applies to this domain: the data length is not a whole number of its blocks.
+fn partial(d: Domain, data_length: u64) -> bool
     requires { ⌜ Sized d ⌝ }
-    ensures { λ r. ⌜ r ≡ admitting.partial d length ⌝ }
+    ensures { λ r. ⌜ r ≡ admitting.partial d «data_length» ⌝ }
 {
     if field::signed(d) {
-        length % d.block_size as u64 != 0
+        data_length % d.block_size as u64 != 0
     } else {
         false
     }
 }
 
-// 10. The data is compared before fields are added to it, and the offset with what the stream leaves: no sum wraps.
+// True if answer 10 applies. The data length is compared before fields are added to it, and the offset with what the
+// stream leaves of the layout, so that no sum wraps.
 fn past(l: Layout, d: Domain, offset: LayoutOffset, data_length: u64) -> bool
     requires { ⌜ Bounded l ⌝ }
     requires { ⌜ Sized d ⌝ }
@@ -56,9 +59,9 @@ fn past(l: Layout, d: Domain, offset: LayoutOffset, data_length: u64) -> bool
     total - stream < offset.number()
 }
 
-// 14, 8, 9, 10, on a memory of so many bytes.
+// Returns the first of answers 14, 8, 9 and 10 that applies, or Done.
 pub fn admit(key: Key, memory_length: u64, offset: LayoutOffset, data_length: u64) -> Outcome
-    requires { ⌜ Usable key ⌝ }
+    requires { ⌜ KeyValid key ⌝ }
     ensures { λ r. ⌜ r ≡ admitting.openAnswer key «memory_length» (offset .0) «data_length» ⌝ }
 {
     if !key.configured {
@@ -77,7 +80,7 @@ pub fn admit(key: Key, memory_length: u64, offset: LayoutOffset, data_length: u6
     Outcome::Done
 }
 
-// 14, 8, 9, 10, 11.
+// Returns the first of answers 14, 8, 9, 10 and 11 that applies, or Done.
 pub fn admit_transfer(
     key: Key,
     memory: &[u8],
@@ -85,7 +88,7 @@ pub fn admit_transfer(
     offset: LayoutOffset,
     data_length: u64,
 ) -> Outcome
-    requires { ⌜ Usable key ⌝ }
+    requires { ⌜ KeyValid key ⌝ }
     ensures { λ r. ⌜ r ≡ admitting.transferAnswer key (length (now (memory .entry))) (offset .0) «data_length» (length (now (wire .entry))) ⌝ }
 {
     let outcome = admit(key, memory.len() as u64, offset, data_length);

@@ -1,59 +1,64 @@
 // Keys: a layout over one lent memory, two domains, masks, and one error slot; and the answers that 01 numbers.
 mod admission;
-mod configuring;
-mod numbers;
-mod recording;
-mod signing;
-mod using;
+mod answer_numbers;
+mod check_call;
+mod configure_call;
+mod signature_rules;
+mod validate;
 
 pub use admission::admit;
 pub use admission::admit_transfer;
 pub use admission::stream_length;
-pub use configuring::configure;
-pub use numbers::number;
-pub use recording::check;
-pub use recording::error_type;
-pub use recording::keep;
-pub use recording::record;
-pub use signing::signature_answer;
-pub use using::usable;
+pub use answer_numbers::number;
+pub use check_call::check;
+pub use check_call::keep_error;
+pub use configure_call::configure;
+pub use validate::fields_valid;
 ghost use mathlib.Core.Path.{_≡_};
 ghost use Rattle.key.specs.Keys.{freshKey};
 use field::Domain;
-use field::Part;
+use layout::ENTRIES_MAX;
 use layout::Entry;
 use layout::Layout;
 use layout::MemoryOffset;
+use slot::ErrorNumbers;
+use slot::Slot;
 
-// One case for each number of 01's table.
+// A lent memory has at most 16,777,216 bytes.
+const MEMORY_LIMIT: u64 = 16777216;
+
+// The attribute flag under which the configured copy mask is used.
+const COPY_MASK_GIVEN: u32 = 1;
+
+// A refusal for each number of 01's table.
 pub enum Refusal {
-    // 1
+    // 1: a domain's numbers or the attribute flags are bad.
     BadDomain,
-    // 2
+    // 2: a domain with an escape flag has the application tag that escapes.
     EscapeTag,
-    // 3
+    // 3: a copy mask is given, but not two signatures of one block size.
     CopyMask,
-    // 4
+    // 4: two signatures have different block sizes.
     BlockSizes,
-    // 5
+    // 5: the layout has a wrong number of entries, repeats or bytes.
     MalformedLayout,
-    // 6
+    // 6: a piece ends beyond the memory.
     OutsideMemory,
-    // 7
+    // 7: two pieces share a byte.
     Overlap,
-    // 8
+    // 8: the memory is above the limit, or of another length than configured.
     MemoryLength,
-    // 9
+    // 9: the data length is not a multiple of a block size.
     PartialBlock,
-    // 10
+    // 10: the memory stream ends beyond the layout.
     PastLayout,
-    // 11
+    // 11: the wire buffer is shorter than the wire stream.
     ShortWire,
-    // 12
+    // 12: the packet is longer than the wire bytes still to come.
     LongPacket,
-    // 13
+    // 13: finish is called before all wire bytes have come.
     BytesToCome,
-    // 14
+    // 14: the key was never configured.
     NotConfigured,
 }
 
@@ -62,7 +67,7 @@ pub enum Outcome {
     Refused(Refusal),
 }
 
-// What a card calls a signature: both domains, and which bytes are checked and copied.
+// Both domains, and which field bytes are checked and copied. The card's manual calls this a signature.
 pub struct Signature {
     pub memory: Domain,
     pub wire: Domain,
@@ -76,20 +81,7 @@ pub struct Configuration {
     pub layout: Layout,
 }
 
-// A bad field: its part, what the input domain's rule gives, what was found, and where its block begins in the input
-// stream. No stream has 2^32 bytes, and with a wider offset a slot has seven idle bytes behind its tag, whose copies stall.
-pub struct Error {
-    pub part: Part,
-    pub actual: u32,
-    pub expected: u32,
-    pub offset: u32,
-}
-
-pub enum Slot {
-    Empty,
-    Holding(Error),
-}
-
+// Each call takes a key by value and returns the one to go on with.
 pub struct Key {
     pub configured: bool,
     pub memory_length: u64,
@@ -98,25 +90,23 @@ pub struct Key {
     pub slot: Slot,
 }
 
-pub struct Configured {
+// What configure returns: the key is unchanged if the outcome is a refusal.
+pub struct ConfigureResult {
     pub outcome: Outcome,
     pub key: Key,
 }
 
-// Check's four numbers, and the key with its slot emptied.
-pub struct Checked {
-    pub kind: u32,
-    pub actual: u32,
-    pub expected: u32,
-    pub offset: u32,
+// What check returns: the numbers of the recorded error, and the key with its slot emptied.
+pub struct CheckResult {
+    pub error: ErrorNumbers,
     pub key: Key,
 }
 
-// A key that was never configured.
+// Returns a key that was never configured.
 pub fn fresh() -> Key
     ensures { λ r. ⌜ r ≡ freshKey ⌝ }
 {
-    let none = field::unsigned();
+    let none = field::unsigned_domain();
     let entry = Entry {
         start: MemoryOffset::new(0),
         count: 0,
@@ -130,7 +120,7 @@ pub fn fresh() -> Key
         copy_mask: 0,
     };
     let layout = Layout {
-        entries: [entry; 16],
+        entries: [entry; ENTRIES_MAX],
         used: 0,
         repeat: 0,
     };

@@ -1,4 +1,4 @@
--- A layout without overlaps has no more bytes than the memory it lies in. Assumes nothing.
+-- Laws about the size of a sound layout: it has no more bytes than the memory it lies in, and so it fits.
 use mathlib.Core.Path.{_≡_, refl, sym, _∙_}
 use mathlib.Core.Bool.{Bool, true, false}
 use Prim.Native.Nat.{ℕ, zero, suc, _≤_, _<_, zero-le, suc-le-suc}
@@ -7,18 +7,18 @@ use lib.Dec.{eqb}
 use lib.ListN.{length, getD}
 use borrow.Author.Tests.{eqb-true, eqb-false, le-ltb}
 use Rattle.layout.specs.declared.Layout.{Layout}
-use Rattle.layout.specs.declared.answer.Verdict.the-variants.{Sound}
+use Rattle.layout.specs.declared.layout_rules.Verdict.the-variants.{Sound}
 use Rattle.layout.specs.Pieces.{places, total}
 use Rattle.layout.specs.Answers.{verdictOn, fits}
 use Rattle.layout.proofs.PieceLaws.{length-places}
 use Rattle.layout.proofs.AnswerLaws.{sound, sound-distinct, sound-below}
 
--- f without the value n: where it was, the value at m stands
+-- `other t a b` is a if t is true, else b. The proof of `pigeonhole` replaces a value n by the value at m with it.
 abbrev other : Bool → ℕ → ℕ → ℕ
 other true a b = a
 other false a b = b
 
--- m different numbers below n are at most n
+-- If m different numbers are below n, m is at most n.
 pigeonhole : (n m : ℕ) (f : ℕ → ℕ) → ((i : ℕ) → i < m → f i < n) → ((i j : ℕ) → i < m → j < m → f i ≡ f j → i ≡ j) → m ≤ n
 pigeonhole n zero f b d = zero-le
 pigeonhole zero (suc m) f b d = absurd (omega (arith, b 0 (omega arith)))
@@ -42,12 +42,13 @@ pigeonhole (suc n) (suc m) f b d = suc-le-suc (pigeonhole n m (λ i. other (eqb 
     differ i j h k false true e q z = absurd (last i h z)
     differ i j h k false false e q z = d i j (omega arith) (omega arith) z
 
+-- A sound layout has no more bytes than the memory it lies in.
 pub sound-total : (l : Layout) (n : ℕ) → verdictOn l n ≡ Sound → total l ≤ n
 sound-total l n s =
     let e = length-places l in
     omega (arith, pigeonhole n (length (places l)) (λ i. getD (places l) i 0) (sound-below l n s) (sound-distinct l n s))
 
--- a sound layout fits
+-- The test `fits` holds for every sound layout.
 pub sound-fits : (l : Layout) (n : ℕ) → verdictOn l n ≡ Sound → fits l n ≡ true
 unfolding fits
 sound-fits l n s =

@@ -1,4 +1,4 @@
--- Laws that the proofs of this crate and of those above it cite.
+-- The proofs of this crate and of the crates that depend on it cite these laws.
 pub mod PieceLaws
 pub mod MoveLaws
 pub mod AnswerLaws

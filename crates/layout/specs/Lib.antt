@@ -1,5 +1,4 @@
 pub mod Pieces
 pub mod Moves
-pub mod Cursors
 pub mod Answers
-pub mod Steps
+pub mod Inner

@@ -1,26 +1,30 @@
 // Layouts: which memory bytes a transfer runs over, and in what order (01, "Layouts").
-mod answer;
+mod cursor;
+mod layout_rules;
 mod moves;
-mod numbers;
 mod offset;
-mod places;
-mod walking;
+mod sizes;
 
-pub use answer::Verdict;
-pub use answer::fits;
-pub use answer::judge;
+pub use cursor::Cursor;
+pub use cursor::forward;
+pub use cursor::next_piece_if_spent;
+pub use cursor::rest_of_piece;
+pub use cursor::walk;
+pub use layout_rules::Verdict;
+pub use layout_rules::fits;
+pub use layout_rules::judge;
 pub use moves::scatter;
 pub use offset::LayoutOffset;
 pub use offset::MemoryOffset;
-pub use places::total;
-pub use walking::Cursor;
-pub use walking::forward;
-pub use walking::ready;
-pub use walking::run;
-pub use walking::walk;
+pub use sizes::total;
 
-// count bytes from start on; the next repeat begins skip bytes behind them. Entries and layouts cross the border to C as
-// they stand.
+// A layout has at most 16 entries, and at most 1,024 pieces (entries times repeats).
+pub const ENTRIES_MAX: usize = 16;
+
+const PIECES_MAX: u64 = 1024;
+
+// Repeat r of an entry is the piece of count bytes from start + r * (count + skip) on. C sees entries and layouts as
+// they are.
 #[repr(C)]
 pub struct Entry {
     pub start: MemoryOffset,
@@ -28,10 +32,11 @@ pub struct Entry {
     pub skip: u32,
 }
 
-// The first used entries, repeat times over. A list layout has repeat 1.
+// The layout's bytes run over the used entries in order, then over their next repeat, and so on. A list layout has
+// repeat 1.
 #[repr(C)]
 pub struct Layout {
-    pub entries: [Entry; 16],
+    pub entries: [Entry; ENTRIES_MAX],
     pub used: u32,
     pub repeat: u32,
 }

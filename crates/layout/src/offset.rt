@@ -1,12 +1,12 @@
-// Offsets in the layout and offsets in memory are different kinds of number (01): their fields are private, so that no
+// Offsets in the layout and offsets in memory are different kinds of number (01). Their fields are private, so that no
 // other crate takes one for the other, and only the walk turns a layout offset into a memory offset.
 ghost use mathlib.Core.Path.{_≡_};
 ghost use Prim.Native.Nat.{_+_, _<_, _^_};
 
-// A place in the layout's bytes, counted from the layout's first byte.
+// The number of a layout byte, counted from the layout's first byte.
 pub struct LayoutOffset(pub(crate) u64);
 
-// A place in the lent memory. It crosses the border to C inside an entry.
+// The number of a byte of the lent memory. C sees it inside an entry.
 #[repr(C)]
 pub struct MemoryOffset(pub(crate) u64);
 
@@ -23,7 +23,7 @@ impl LayoutOffset {
         self.0
     }
 
-    // The place n bytes further on.
+    // Returns the offset n bytes further on.
     pub fn ahead(self, n: u64) -> Self
         requires { ⌜ self .0 + n < 2 ^ 64 ⌝ }
         ensures { λ r. ⌜ r .0 ≡ self .0 + n ⌝ }
@@ -43,5 +43,13 @@ impl MemoryOffset {
         ensures { λ r. ⌜ r ≡ self .0 ⌝ }
     {
         self.0
+    }
+
+    // Returns the offset n bytes further on.
+    pub(crate) fn ahead(self, n: u64) -> Self
+        requires { ⌜ self .0 + n < 2 ^ 64 ⌝ }
+        ensures { λ r. ⌜ r ≡ record { 0 = self .0 + n } ⌝ }
+    {
+        MemoryOffset(self.0 + n)
     }
 }

@@ -1,51 +1,54 @@
-// Receive by packets: open, packet, finish, abandon. Data goes to memory as it arrives, a field when its unit is whole.
-mod ending;
-mod opening;
-mod packing;
-mod resuming;
+// Receive by packets: open, packet, finish, abandon. Data is stored in memory as it arrives, a field once its unit is
+// whole.
+mod end_calls;
+mod open_call;
+mod packet_call;
+mod validate;
 
-pub use ending::abandon;
-pub use ending::finish;
+pub use end_calls::abandon;
+pub use end_calls::finish;
 use engine::Progress;
 use key::Key;
 use key::Outcome;
 use layout::LayoutOffset;
-pub use opening::open;
-pub use packing::packet;
-pub use resuming::eight;
-pub use resuming::under_way;
+pub use open_call::open;
+pub use packet_call::packet;
+pub use validate::held_is_eight;
+pub use validate::session_valid;
 
-// A received transfer under way: what open was given, and how far it is.
+// A received transfer in progress: what open was given, and how far the transfer is.
 pub struct Session {
     pub key: Key,
-    pub start: LayoutOffset,
-    pub length: u64,
+    pub offset: LayoutOffset,
+    pub data_length: u64,
     pub progress: Progress,
 }
 
-// Open's number, the key where it was refused, the session where it was accepted.
-pub struct Opened {
+// What open returns: the key given, and the session, which only counts if the outcome is Done.
+pub struct OpenResult {
     pub outcome: Outcome,
     pub key: Key,
     pub session: Session,
 }
 
-// A packet's number, the totals since open, and the session.
-pub struct Packed {
+// What packet returns: the totals since open, or zeros if it is refused, and the session.
+pub struct PacketResult {
     pub outcome: Outcome,
     pub taken: u64,
     pub written: u64,
     pub session: Session,
 }
 
-// Finish's number, the key where it was accepted, the session where bytes are still to come.
-pub struct Finished {
+// What finish returns: the key, which only counts if the outcome is Done, and the session, which only counts if it is a
+// refusal.
+pub struct FinishResult {
     pub outcome: Outcome,
     pub key: Key,
     pub session: Session,
 }
 
-pub struct Abandoned {
+// What abandon returns. Its outcome is always Done.
+pub struct AbandonResult {
     pub outcome: Outcome,
     pub key: Key,
 }

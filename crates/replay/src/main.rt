@@ -1,6 +1,5 @@
-// replay: makes the calls that its standard input lists, through the C interface, and prints what each answers and what
-// memory and wire hold then. tests/reference writes the list and the right answers; its README says what the lines
-// mean.
+// replay: makes the calls that its standard input lists, through the C API, and prints what each returns and digests of
+// memory and wire after it. tests/reference writes the list and the right answers; its README says what the lines mean.
 mod buffers;
 mod calls;
 mod lines;
@@ -8,10 +7,16 @@ mod settings;
 
 use libc::STDIN_FILENO;
 
+// The most bytes of the case file that are read.
+const TEXT_SIZE: usize = 262144;
+
+// The size of memory, and that of wire.
+const BUFFER_SIZE: usize = 16384;
+
 fn main() {
-    let mut text = [0u8; 262144];
+    let mut text = [0u8; TEXT_SIZE];
     let n = io::read_full(STDIN_FILENO, &mut text);
-    let mut memory = [0u8; 16384];
-    let mut wire = [0u8; 16384];
-    calls::play(&text[..n], &mut memory, &mut wire);
+    let mut memory = [0u8; BUFFER_SIZE];
+    let mut wire = [0u8; BUFFER_SIZE];
+    calls::run_lines(&text[..n], &mut memory, &mut wire);
 }

@@ -1,28 +1,49 @@
-// A configuration, from a line.
+// Reads a configuration from a line.
 ghost use Prim.Native.Nat.{_<_};
-use crate::lines::length;
+use crate::lines::bounded_length;
 use crate::lines::number;
+use cstructs::CConfiguration;
+use cstructs::CSignature;
 use field::Domain;
+use layout::ENTRIES_MAX;
 use layout::Entry;
 use layout::Layout;
 use layout::MemoryOffset;
-use records::ConfigurationRecord;
-use records::SignatureRecord;
+
+// Which number of the line is which: number 0 is the memory's length, and a domain has seven numbers.
+const MEMORY_DOMAIN: usize = 1;
+
+const WIRE_DOMAIN: usize = 8;
+
+const ATTRIBUTE_FLAGS: usize = 15;
+
+const CHECK_MASK: usize = 16;
+
+const COPY_MASK: usize = 17;
+
+const USED: usize = 18;
+
+const REPEAT: usize = 19;
+
+// The number of entries that follow, of three numbers each.
+const ENTRIES_GIVEN: usize = 20;
+
+const FIRST_ENTRY: usize = 21;
 
 fn number32(line: &[u8], i: usize) -> u32 {
-    (number(line, i) % 4294967296) as u32
+    (number(line, i) % 0x1_0000_0000) as u32
 }
 
 fn number16(line: &[u8], i: usize) -> u16 {
-    (number(line, i) % 65536) as u16
+    (number(line, i) % 0x1_0000) as u16
 }
 
 fn number8(line: &[u8], i: usize) -> u8 {
-    (number(line, i) % 256) as u8
+    (number(line, i) % 0x100) as u8
 }
 
-// Seven numbers, from number i on.
-fn domain(line: &[u8], i: usize) -> Domain
+// Reads a domain, the seven numbers from number i on.
+fn read_domain(line: &[u8], i: usize) -> Domain
     requires { ⌜ i < 100 ⌝ }
 {
     Domain {
@@ -36,7 +57,8 @@ fn domain(line: &[u8], i: usize) -> Domain
     }
 }
 
-fn entry(line: &[u8], i: usize) -> Entry
+// Reads an entry, the three numbers from number i on.
+fn read_entry(line: &[u8], i: usize) -> Entry
     requires { ⌜ i < 100 ⌝ }
 {
     Entry {
@@ -46,7 +68,7 @@ fn entry(line: &[u8], i: usize) -> Entry
     }
 }
 
-fn no_entry() -> Entry {
+fn empty_entry() -> Entry {
     Entry {
         start: MemoryOffset::new(0),
         count: 0,
@@ -54,42 +76,43 @@ fn no_entry() -> Entry {
     }
 }
 
-// How many entries the line has, and the entries themselves.
-fn entries(line: &[u8]) -> [Entry; 16] {
-    let given = length(line, 20, 16);
-    let mut all = [no_entry(); 16];
+// Reads the entries of a line. Those that it does not give are empty.
+fn read_entries(line: &[u8]) -> [Entry; ENTRIES_MAX] {
+    let given = bounded_length(line, ENTRIES_GIVEN, ENTRIES_MAX);
+    let mut entries = [empty_entry(); ENTRIES_MAX];
     let mut i: usize = 0;
     while i < given {
-        all[i] = entry(line, 21 + 3 * i);
+        entries[i] = read_entry(line, FIRST_ENTRY + 3 * i);
         i += 1;
     }
-    all
+    entries
 }
 
-fn layout(line: &[u8]) -> Layout {
-    let all = entries(line);
+fn read_layout(line: &[u8]) -> Layout {
+    let entries = read_entries(line);
     Layout {
-        entries: all,
-        used: number32(line, 18),
-        repeat: number32(line, 19),
+        entries,
+        used: number32(line, USED),
+        repeat: number32(line, REPEAT),
     }
 }
 
-fn signature(line: &[u8]) -> SignatureRecord {
-    let memory = domain(line, 1);
-    let wire = domain(line, 8);
-    SignatureRecord {
+fn read_signature(line: &[u8]) -> CSignature {
+    let memory = read_domain(line, MEMORY_DOMAIN);
+    let wire = read_domain(line, WIRE_DOMAIN);
+    CSignature {
         memory,
         wire,
-        attribute_flags: number32(line, 15),
-        check_mask: number8(line, 16),
-        copy_mask: number8(line, 17),
+        attribute_flags: number32(line, ATTRIBUTE_FLAGS),
+        check_mask: number8(line, CHECK_MASK),
+        copy_mask: number8(line, COPY_MASK),
         spare: 0,
     }
 }
 
-pub(crate) fn configuration(line: &[u8]) -> ConfigurationRecord {
-    let layout = layout(line);
-    let signature = signature(line);
-    ConfigurationRecord { layout, signature }
+// Reads the configuration of a line that calls configure.
+pub(crate) fn read_configuration(line: &[u8]) -> CConfiguration {
+    let layout = read_layout(line);
+    let signature = read_signature(line);
+    CConfiguration { layout, signature }
 }

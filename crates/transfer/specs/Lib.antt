@@ -1,3 +1,3 @@
 pub mod Rules
 pub mod Transferring
-pub mod Sending
+pub mod Inner

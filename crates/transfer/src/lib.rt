@@ -1,29 +1,29 @@
-// Transfers in one call: send takes memory to the wire, receive the wire to memory.
-mod receiving;
+// Transfers in one call: send moves memory to the wire, receive moves the wire to memory.
+mod receive_call;
 mod rules;
-mod sending;
+mod send_call;
 
 ghost use mathlib.Core.Path.{_≡_};
 use key::Key;
 use key::Outcome;
-pub use receiving::receive;
+pub use receive_call::receive;
 pub use rules::receive_rule;
-pub use rules::send_rule;
-pub use sending::send;
+pub use send_call::send;
 
-// A transfer's number, the bytes of the input stream taken and of the output stream written, and the key.
-pub struct Transferred {
+// What a transfer returns: its outcome, the input bytes taken and the output bytes written, fields included, and the
+// key. A refused transfer returns two zeros and the key as it was.
+pub struct TransferResult {
     pub outcome: Outcome,
     pub taken: u64,
     pub written: u64,
     pub key: Key,
 }
 
-// A refused transfer: its number, two zeros, and the key as it was.
-fn refused(outcome: Outcome, key: Key) -> Transferred
+// Returns the result of a refused transfer.
+fn refused_result(outcome: Outcome, key: Key) -> TransferResult
     ensures { λ r. ⌜ r ≡ record { outcome = outcome; taken = 0; written = 0; key = key } ⌝ }
 {
-    Transferred {
+    TransferResult {
         outcome,
         taken: 0,
         written: 0,

@@ -1,33 +1,32 @@
-// Which domain is the input.
+// The rule of a transfer: which domain is the input.
 ghost use mathlib.Core.Path.{_≡_};
 ghost use Rattle.transfer.specs.Rules as rules;
 use engine::Rule;
+use field::Domain;
 use key::Signature;
 
-// Memory to wire.
-pub fn send_rule(s: Signature) -> Rule
-    ensures { λ r. ⌜ r ≡ rules.sendRule s ⌝ }
+// Returns the rule for a transfer from the input domain to the output domain.
+fn rule_between(input: Domain, output: Domain, s: Signature) -> Rule
+    ensures { λ r. ⌜ r ≡ rules.ruleBetween input output s ⌝ }
 {
-    let memory = s.memory;
-    let wire = s.wire;
     Rule {
-        input: memory,
-        output: wire,
+        input,
+        output,
         check_mask: s.check_mask,
-        copy_mask: field::copy_mask(s.attribute_flags, s.copy_mask, memory, wire),
+        copy_mask: field::copy_mask(s.attribute_flags, s.copy_mask, input, output),
     }
 }
 
-// Wire to memory.
+// Returns the rule for a transfer from memory to the wire.
+pub(crate) fn send_rule(s: Signature) -> Rule
+    ensures { λ r. ⌜ r ≡ rules.sendRule s ⌝ }
+{
+    rule_between(s.memory, s.wire, s)
+}
+
+// Returns the rule for a transfer from the wire to memory.
 pub fn receive_rule(s: Signature) -> Rule
     ensures { λ r. ⌜ r ≡ rules.receiveRule s ⌝ }
 {
-    let memory = s.memory;
-    let wire = s.wire;
-    Rule {
-        input: wire,
-        output: memory,
-        check_mask: s.check_mask,
-        copy_mask: field::copy_mask(s.attribute_flags, s.copy_mask, wire, memory),
-    }
+    rule_between(s.wire, s.memory, s)
 }

@@ -2,8 +2,8 @@
 use mathlib.Core.Path.{_≡_, sym, _∙_}
 use Prim.Native.Nat.{ℕ, _*_, _-_, _≤_}
 use Rattle.layout.specs.declared.Layout.{Layout}
-use Rattle.layout.specs.declared.answer.Verdict.{Verdict}
-use Rattle.layout.specs.declared.answer.Verdict.the-variants.{Sound}
+use Rattle.layout.specs.declared.layout_rules.Verdict.{Verdict}
+use Rattle.layout.specs.declared.layout_rules.Verdict.the-variants.{Sound}
 use Rattle.layout.specs.Pieces.{total}
 use Rattle.layout.specs.Answers.{verdictOn}
 use Rattle.layout.proofs.AnswerLaws.{sound-shaped, sound-placed}

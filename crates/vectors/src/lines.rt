@@ -1,27 +1,29 @@
-// What is printed.
+// Prints texts and numbers.
 use libc::STDOUT_FILENO;
 
-pub(crate) fn text(s: &[u8]) {
-    io::write_all(STDOUT_FILENO, s);
+// How many hexadecimal digits the papers write a guard with.
+const GUARD_DIGITS: usize = 4;
+
+pub(crate) fn print_text(text: &[u8]) {
+    io::write_all(STDOUT_FILENO, text);
 }
 
-pub(crate) fn decimal(n: u64) {
+pub(crate) fn print_decimal(n: u64) {
     io::print_decimal(STDOUT_FILENO, n);
 }
 
-// A guard as the papers write it: four hexadecimal digits.
-pub(crate) fn guard(g: u16) {
-    io::print_hex(STDOUT_FILENO, g as u64, 4);
+pub(crate) fn print_guard(guard: u16) {
+    io::print_hex(STDOUT_FILENO, guard as u64, GUARD_DIGITS);
 }
 
-pub(crate) fn decimal_line(label: &[u8], n: u64) {
-    text(label);
-    decimal(n);
-    text(b"\n");
+pub(crate) fn print_decimal_line(label: &[u8], n: u64) {
+    print_text(label);
+    print_decimal(n);
+    print_text(b"\n");
 }
 
-pub(crate) fn guard_line(label: &[u8], g: u16) {
-    text(label);
-    guard(g);
-    text(b"\n");
+pub(crate) fn print_guard_line(label: &[u8], guard: u16) {
+    print_text(label);
+    print_guard(guard);
+    print_text(b"\n");
 }

@@ -1,9 +1,12 @@
-// SBC-3's and RFC 1071's vectors and the scope paper's cases E, F, G, J, K and L, run through guard and layout.
-// The file `stdout` has what the papers give; it was worked out without this code.
+// Runs SBC-3's and RFC 1071's vectors and the scope paper's cases E, F, G, J, K and L through guard and layout. The
+// file `stdout` holds what the papers give; it was computed without this code.
 mod guards;
 mod layouts;
 mod lines;
 mod moves;
+
+// The length of the memory of case J.
+const J_MEMORY: u64 = 1044;
 
 fn main() {
     guards::print_crc();
@@ -13,5 +16,5 @@ fn main() {
     layouts::print_malformed();
     layouts::print_edges();
     layouts::print_spots();
-    moves::print();
+    moves::print_moves();
 }

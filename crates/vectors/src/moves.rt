@@ -1,28 +1,32 @@
-// J's bytes gathered, and scattered over another memory.
+// Gathers J's bytes, scatters them over another memory, and prints what is the same then.
 ghost use mathlib.Core.Path.{_≡_};
 ghost use Prim.Native.Nat.{_<_};
 ghost use lib.ListN.{length};
 ghost use Rattle.vectors.specs.Needed.{Moved};
+use crate::J_MEMORY;
 use crate::layouts;
 use crate::lines;
 use layout::Layout;
 use layout::LayoutOffset;
 use layout::Verdict;
 
-type Memory = [u8; 1044];
+// The total of J's layout.
+const J_TOTAL: usize = 1040;
 
-type Bytes = [u8; 1040];
+type Memory = [u8; J_MEMORY as usize];
 
-fn memory() -> Memory {
-    [0; 1044]
+type Bytes = [u8; J_TOTAL];
+
+fn zero_memory() -> Memory {
+    [0; J_MEMORY as usize]
 }
 
-fn layout_bytes() -> Bytes {
-    [0; 1040]
+fn zero_bytes() -> Bytes {
+    [0; J_TOTAL]
 }
 
-// No byte is 0: none looks like one that was never stored.
-fn fill(m: &mut Memory) {
+// Fills a memory with a pattern in which no byte is 0, so that none looks like one that was never stored.
+fn fill_pattern(m: &mut Memory) {
     let mut i = 0;
     while i < m.len() {
         m[i] = (i % 251) as u8 + 1;
@@ -30,8 +34,8 @@ fn fill(m: &mut Memory) {
     }
 }
 
-// How many bytes are the same in both.
-fn same(a: &[u8], b: &[u8]) -> usize
+// Returns how many bytes are the same in both.
+fn count_same(a: &[u8], b: &[u8]) -> usize
     requires { ⌜ length (now a) ≡ length (now b) ⌝ }
 {
     let mut n: usize = 0;
@@ -45,25 +49,26 @@ fn same(a: &[u8], b: &[u8]) -> usize
     n
 }
 
-fn print_same(label: &[u8], a: &[u8], b: &[u8], kind: &[u8])
+fn print_same(label: &[u8], a: &[u8], b: &[u8], end: &[u8])
     requires { ⌜ length (now a) ≡ length (now b) ⌝ }
 {
-    lines::text(label);
-    lines::decimal(same(a, b) as u64);
-    lines::text(b" of ");
-    lines::decimal(a.len() as u64);
-    lines::text(kind);
+    lines::print_text(label);
+    lines::print_decimal(count_same(a, b) as u64);
+    lines::print_text(b" of ");
+    lines::print_decimal(a.len() as u64);
+    lines::print_text(end);
 }
 
-// Layout byte x of a memory.
+// Returns the memory byte that is layout byte x.
 fn byte_at(l: Layout, m: &Memory, x: u64) -> u8
     requires { ⌜ (Moved l) × (x < 1040) ⌝ }
 {
-    let c = layout::ready(l, layout::walk(l, LayoutOffset::new(x)));
+    let c = layout::next_piece_if_spent(l, layout::walk(l, LayoutOffset::new(x)));
     let at = c.place.number() as usize;
     m[at]
 }
 
+// Reads all bytes of the layout from a memory.
 fn gather(l: Layout, from: &Memory, bytes: &mut Bytes)
     requires { ⌜ Moved l ⌝ }
 {
@@ -74,6 +79,7 @@ fn gather(l: Layout, from: &Memory, bytes: &mut Bytes)
     }
 }
 
+// Stores all bytes of the layout in a memory.
 fn scatter(l: Layout, to: &mut Memory, bytes: &Bytes)
     requires { ⌜ Moved l ⌝ }
 {
@@ -81,13 +87,19 @@ fn scatter(l: Layout, to: &mut Memory, bytes: &Bytes)
     layout::scatter(l, to, start, bytes);
 }
 
-// The layout's bytes gathered from one memory, scattered over another, and gathered again from there.
-fn there_and_back(l: Layout, from: &Memory, to: &mut Memory, bytes: &mut Bytes, again: &mut Bytes) {
-    let v = layout::judge(l, 1044);
+// Gathers the layout's bytes from one memory, scatters them over another, and gathers them again from there.
+fn move_and_gather_again(
+    l: Layout,
+    from: &Memory,
+    to: &mut Memory,
+    bytes: &mut Bytes,
+    again: &mut Bytes,
+) {
+    let v = layout::judge(l, J_MEMORY);
     let Verdict::Sound = v else {
         return;
     };
-    if layout::total(l) == 1040 {
+    if layout::total(l) == J_TOTAL as u64 {
         gather(l, from, bytes);
         scatter(l, to, bytes);
         gather(l, to, again);
@@ -99,9 +111,9 @@ fn wide(byte: u8) -> u64 {
 }
 
 fn print_gathered(bytes: &Bytes) {
-    lines::text(b"J, gathered: layout byte 512 is ");
-    lines::decimal(wide(bytes[512]));
-    lines::decimal_line(b", 520 is ", wide(bytes[520]));
+    lines::print_text(b"J, gathered: layout byte 512 is ");
+    lines::print_decimal(wide(bytes[512]));
+    lines::print_decimal_line(b", 520 is ", wide(bytes[520]));
 }
 
 fn print_scattered(from: &Memory, to: &Memory) {
@@ -113,7 +125,7 @@ fn print_scattered(from: &Memory, to: &Memory) {
     );
 }
 
-fn print_again(bytes: &Bytes, again: &Bytes) {
+fn print_gathered_again(bytes: &Bytes, again: &Bytes) {
     print_same(
         b"J, gathered again: ",
         bytes,
@@ -122,14 +134,14 @@ fn print_again(bytes: &Bytes, again: &Bytes) {
     );
 }
 
-pub(crate) fn print() {
-    let mut from = memory();
-    let mut to = memory();
-    let mut bytes = layout_bytes();
-    let mut again = layout_bytes();
-    fill(&mut from);
-    there_and_back(layouts::j(), &from, &mut to, &mut bytes, &mut again);
+pub(crate) fn print_moves() {
+    let mut from = zero_memory();
+    let mut to = zero_memory();
+    let mut bytes = zero_bytes();
+    let mut again = zero_bytes();
+    fill_pattern(&mut from);
+    move_and_gather_again(layouts::make_j(), &from, &mut to, &mut bytes, &mut again);
     print_gathered(&bytes);
     print_scattered(&from, &to);
-    print_again(&bytes, &again);
+    print_gathered_again(&bytes, &again);
 }

@@ -1,18 +1,13 @@
-// What difcheck does (01, "The small program"): a wire's fields checked, received in packets of at most 4,168 bytes.
-mod receiving;
+// What difcheck does (01, "The small program"): it checks the fields of a wire, received in packets of at most 4,168
+// bytes.
+mod check;
 mod setup;
 
-pub use receiving::check_wire;
+pub use check::check_wire;
+use slot::ErrorNumbers;
 
-// The refusal's number, or check's four numbers.
+// The number of a refusal, or the numbers that check returns.
 pub enum Answer {
     Refused(u32),
-    Found(Numbers),
-}
-
-pub struct Numbers {
-    pub kind: u32,
-    pub actual: u32,
-    pub expected: u32,
-    pub offset: u32,
+    Found(ErrorNumbers),
 }

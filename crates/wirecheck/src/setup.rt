@@ -1,18 +1,20 @@
-// Case A's wire domain, no memory signature, all check bits, one entry over 32,768 bytes.
+// The configuration of difcheck: the wire domain of 01's case A, no memory signature, all check bits, and one entry
+// over 32,768 bytes of memory.
 ghost use mathlib.Core.Path.{_≡_};
-ghost use Rattle.wirecheck.specs.Checking as checking;
+ghost use Rattle.wirecheck.specs.Checking as checks;
 use field::Domain;
 use key::Configuration;
 use key::Signature;
+use layout::ENTRIES_MAX;
 use layout::Entry;
 use layout::Layout;
 use layout::MemoryOffset;
 
 fn signature() -> Signature
-    ensures { λ r. ⌜ r ≡ checking.signatureA ⌝ }
+    ensures { λ r. ⌜ r ≡ checks.signatureA ⌝ }
 {
     Signature {
-        memory: field::unsigned(),
+        memory: field::unsigned_domain(),
         wire: Domain {
             kind: 1,
             block_size: 8,
@@ -29,7 +31,7 @@ fn signature() -> Signature
 }
 
 pub(crate) fn configuration() -> Configuration
-    ensures { λ r. ⌜ r ≡ checking.configurationA ⌝ }
+    ensures { λ r. ⌜ r ≡ checks.configurationA ⌝ }
 {
     let all = Entry {
         start: MemoryOffset::new(0),
@@ -37,7 +39,7 @@ pub(crate) fn configuration() -> Configuration
         skip: 0,
     };
     let layout = Layout {
-        entries: [all; 16],
+        entries: [all; ENTRIES_MAX],
         used: 1,
         repeat: 1,
     };

@@ -1,3 +1,4 @@
+-- The loop keeps the invariant that storing the bytes left leads to the result.
 use Rattle.engine.proofs.PartLaws.{sets-more, sets-end}
 use mathlib.Core.Path.{_≡_, _∙_, sym}
 use Prim.Native.Nat.{_+_, _-_, _≤_}

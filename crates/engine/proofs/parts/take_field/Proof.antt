@@ -11,11 +11,11 @@ sub-from c = search needs
 hold-requires : tie.Need-hold-requires
 hold-requires c κs = search needs
 
-further-requires : tie.Need-further-requires
-further-requires c κs = search needs
+side-after-requires : tie.Need-side-after-requires
+side-after-requires c κs = search needs
 
 returns : tie.Need-returns
-returns c = rw (c .further .ensures, c .before .hold .ensures, c .before .before .before .block-size .ensures .0)
+returns c = rw (c .side-after .ensures, c .before .hold .ensures, c .before .before .before .block-size .ensures .0)
 
 pub take-field-spec : {M : Type 1} → statement M
-take-field-spec = tie.close (tie.spec block-size-requires sub-from hold-requires further-requires returns)
+take-field-spec = tie.close (tie.spec block-size-requires sub-from hold-requires side-after-requires returns)

@@ -19,8 +19,8 @@ same-length c = search needs
 returns : tie.Need-returns
 returns c = search needs
 
-feed-bare-requires : tie.Need-feed-bare-requires
-feed-bare-requires c κs =
+feed-unsigned-requires : tie.Need-feed-unsigned-requires
+feed-unsigned-requires c κs =
     let b = c .before .before in
     let s = b .before .before .before .before in
     let neither = or-false (b .before .signed .result) (b .signed2 .result) (c .before .if1 .left) in
@@ -41,6 +41,6 @@ feed-spec =
     feed-parts-requires
     same-length
     returns
-    feed-bare-requires
+    feed-unsigned-requires
     same-length-2
     returns-2)

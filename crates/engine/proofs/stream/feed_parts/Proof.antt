@@ -1,3 +1,4 @@
+-- The loop keeps the invariant that feeding the rest leads to the same result as feeding all bytes.
 use mathlib.Core.Path.{refl}
 use Prim.Native.Nat.{_-_}
 use native.Mathlib.Nat.{sub-zero}
@@ -5,7 +6,7 @@ use native.Mathlib.Omega.{arith}
 use borrow.Author.Needs.{needs}
 use lib.ListN.{length, length-drop}
 use borrow.Rule.Slice.PartAt.{part-to-end}
-use Rattle.engine.specs.Parts.{Going}
+use Rattle.engine.specs.Inner.Parts.{Going}
 use Rattle.engine.proofs.FeedLaws.{going-start, part-asks, going-turn, going-end}
 use Rattle.engine.proofs.stream.feed_parts.Statement.{statement}
 use Rattle.engine.proofs.stream.feed_parts.Tie as tie

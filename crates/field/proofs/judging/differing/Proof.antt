@@ -5,29 +5,29 @@ use borrow.Author.Needs.{needs}
 use Rattle.field.proofs.judging.differing.Statement.{statement}
 use Rattle.field.proofs.judging.differing.Tie as tie
 
-pair-requires : tie.Need-pair-requires
-pair-requires c κs = search needs
+differs-pair-requires : tie.Need-differs-pair-requires
+differs-pair-requires c κs = search needs
 
-pair-requires-2 : tie.Need-pair-requires-2
-pair-requires-2 c κs = search needs
+differs-pair-requires-2 : tie.Need-differs-pair-requires-2
+differs-pair-requires-2 c κs = search needs
 
-upper-requires : tie.Need-upper-requires
-upper-requires c κs = search needs
+high-half-requires : tie.Need-high-half-requires
+high-half-requires c κs = search needs
 
-upper-requires-2 : tie.Need-upper-requires-2
-upper-requires-2 c κs = search needs
+high-half-requires-2 : tie.Need-high-half-requires-2
+high-half-requires-2 c κs = search needs
 
-pair-requires-3 : tie.Need-pair-requires-3
-pair-requires-3 c κs = search needs
+differs-pair-requires-3 : tie.Need-differs-pair-requires-3
+differs-pair-requires-3 c κs = search needs
 
-lower-requires : tie.Need-lower-requires
-lower-requires c κs = search needs
+low-half-requires : tie.Need-low-half-requires
+low-half-requires c κs = search needs
 
-lower-requires-2 : tie.Need-lower-requires-2
-lower-requires-2 c κs = search needs
+low-half-requires-2 : tie.Need-low-half-requires-2
+low-half-requires-2 c κs = search needs
 
-pair-requires-4 : tie.Need-pair-requires-4
-pair-requires-4 c κs = search needs
+differs-pair-requires-4 : tie.Need-differs-pair-requires-4
+differs-pair-requires-4 c κs = search needs
 
 mul-result : tie.Need-mul-result
 mul-result c = search needs
@@ -51,21 +51,21 @@ returns : tie.Need-returns
 unfolding differing differs maskOf bytesOf
 returns c =
     let b = c .before .before .before in
-    rw (b .before .before .before .before .pair .ensures .0, b .before .before .before .pair2 .ensures .0, b .pair3 .ensures .0, c .pair4 .ensures .0)
-    (rw (b .before .before .upper .ensures, b .before .upper2 .ensures, c .before .before .lower .ensures, c .before .lower2 .ensures) (omega arith))
+    rw (b .before .before .before .before .differs-pair .ensures .0, b .before .before .before .differs-pair2 .ensures .0, b .differs-pair3 .ensures .0, c .differs-pair4 .ensures .0)
+    (rw (b .before .before .high-half .ensures, b .before .high-half2 .ensures, c .before .before .low-half .ensures, c .before .low-half2 .ensures) (omega arith))
 
 pub differing-spec : {M : Type 1} → statement M
 differing-spec =
     tie.close
     (tie.spec
-    pair-requires
-    pair-requires-2
-    upper-requires
-    upper-requires-2
-    pair-requires-3
-    lower-requires
-    lower-requires-2
-    pair-requires-4
+    differs-pair-requires
+    differs-pair-requires-2
+    high-half-requires
+    high-half-requires-2
+    differs-pair-requires-3
+    low-half-requires
+    low-half-requires-2
+    differs-pair-requires-4
     mul-result
     mul-result-2
     add-result

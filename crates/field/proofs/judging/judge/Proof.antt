@@ -3,11 +3,11 @@ use borrow.Author.Needs.{needs}
 use Rattle.field.proofs.judging.judge.Statement.{statement}
 use Rattle.field.proofs.judging.judge.Tie as tie
 
-given-requires : tie.Need-given-requires
-given-requires c κs = search needs
+compute-field-requires : tie.Need-compute-field-requires
+compute-field-requires c κs = search needs
 
-checked-requires : tie.Need-checked-requires
-checked-requires c κs = search needs
+checked-mask-requires : tie.Need-checked-mask-requires
+checked-mask-requires c κs = search needs
 
 differing-requires : tie.Need-differing-requires
 differing-requires c κs = search needs
@@ -17,9 +17,9 @@ first-bad-requires c κs = search needs
 
 returns : tie.Need-returns
 unfolding judged
-returns c = rw (c .first-bad .ensures, c .before .differing .ensures, c .before .before .checked .ensures, c .before .before .before .given .ensures)
+returns c = rw (c .first-bad .ensures, c .before .differing .ensures, c .before .before .checked-mask .ensures, c .before .before .before .compute-field .ensures)
 
 pub judge-spec : {M : Type 1} → statement M
 judge-spec =
     tie.close
-    (tie.spec given-requires checked-requires differing-requires first-bad-requires returns)
+    (tie.spec compute-field-requires checked-mask-requires differing-requires first-bad-requires returns)

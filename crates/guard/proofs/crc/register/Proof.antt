@@ -1,3 +1,4 @@
+-- The loop keeps the invariant that entering the bytes left leads to the result.
 use Rattle.guard.proofs.Laws.{crc-more, crc-end}
 use mathlib.Core.Path.{_≡_, _∙_, sym, refl}
 use native.Mathlib.Omega.{arith}

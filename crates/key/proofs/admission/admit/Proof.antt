@@ -1,4 +1,4 @@
--- Each return follows the tests before it; what a configured key holds meets what the tests ask.
+-- Each return follows from the tests before it, and a configured key meets the preconditions of the tests.
 use mathlib.Core.Path.{sym, _∙_}
 use borrow.Author.Tests.{not-false, eq-eqb, ne-eqb}
 use Rattle.key.specs.Admitting.{openAnswer}
@@ -6,7 +6,7 @@ use Rattle.key.proofs.Laws.{Held, held, sized}
 use Rattle.key.proofs.admission.admit.Statement.{statement}
 use Rattle.key.proofs.admission.admit.Tie as tie
 
--- a key past 14 holds what configure accepted
+-- If answer 14 does not apply to a valid key, `Held` holds for it.
 configured : (c : tie.Else1) → Held (c .before .before .args .key)
 configured c =
     let s = c .before .before in

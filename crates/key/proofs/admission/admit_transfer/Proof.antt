@@ -1,4 +1,4 @@
--- Open's answer decides first; an accepted open bounds the length.
+-- Open's answer decides first, and an accepted open bounds the data length, as `stream_length` requires.
 use mathlib.Core.Path.{sym, _∙_}
 use native.Mathlib.Omega.{arith}
 use lib.ListN.{length}

@@ -1,4 +1,4 @@
--- Answer 1 leaves no block size of 0 to divide by.
+-- The precondition excludes a block size of 0, by which the code could not divide.
 use mathlib.Core.Path.{sym, _∙_}
 use native.Mathlib.Omega.{arith}
 use borrow.Author.Needs.{needs}

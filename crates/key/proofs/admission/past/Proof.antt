@@ -1,4 +1,4 @@
--- Each return follows the tests before it.
+-- Each return follows from the tests before it.
 use mathlib.Core.Path.{sym}
 use Prim.Native.Nat.{_+_}
 use native.Mathlib.Omega.{arith}

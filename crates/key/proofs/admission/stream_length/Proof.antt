@@ -1,4 +1,4 @@
--- The fields are no longer than the data.
+-- The fields have no more bytes than the data, so that no sum wraps.
 use mathlib.Core.Path.{sym, _∙_}
 use Prim.Native.Nat.{_≤_}
 use native.Mathlib.Omega.{arith}
@@ -23,12 +23,12 @@ div-result c = omega (arith, size (c .before))
 mul-result : tie.Need-mul-result
 mul-result c =
     let a = c .before .before .before .args in
-    omega (arith, fields-short (a .length) (a .d .«block_size») (size (c .before)))
+    omega (arith, fields-short (a .data-length) (a .d .«block_size») (size (c .before)))
 
 add-result : tie.Need-add-result
 add-result c =
     let a = c .before .before .before .args in
-    omega (arith, fields-short (a .length) (a .d .«block_size») (size (c .before)))
+    omega (arith, fields-short (a .data-length) (a .d .«block_size») (size (c .before)))
 
 returns : tie.Need-returns
 unfolding streamLength

@@ -1,4 +1,4 @@
--- The invariant: the first i bytes are copied.
+-- The loop keeps the invariant that the first i bytes are copied.
 use mathlib.Core.Path.{_≡_}
 use Prim.Native.Nat.{_-_, _≤_}
 use borrow.Author.Needs.{needs}

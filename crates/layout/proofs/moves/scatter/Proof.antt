@@ -1,4 +1,4 @@
--- The invariant: storing the rest gives what storing all bytes was to give.
+-- The loop keeps the invariant that storing the rest leads to the same memory as storing all bytes.
 use mathlib.Core.Path.{refl}
 use Prim.Native.Nat.{_+_, _≤_}
 use native.Mathlib.Omega.{arith}
@@ -6,7 +6,7 @@ use borrow.Author.Needs.{needs}
 use borrow.Rule.Slice.PartAt.{part-to-end}
 use lib.ListN.{length, length-drop}
 use denote.Ref.{now}
-use Rattle.layout.specs.Cursors.{Storing}
+use Rattle.layout.specs.Inner.Cursors.{Storing}
 use Rattle.layout.proofs.PieceLaws.{placed-more}
 use Rattle.layout.proofs.CursorLaws.{storing-turn, storing-end}
 use Rattle.layout.proofs.moves.scatter.Statement.{statement}
@@ -23,21 +23,21 @@ loop-holds c =
     let s = c .before .before in
     record { stands = s .pre .1 .0; room = s .pre .1 .1; on = refl; memory = refl; size = refl }
 
-ready-requires : tie.Need-ready-requires Inv-loop μ-loop
-ready-requires c κs =
+next-piece-if-spent-requires : tie.Need-next-piece-if-spent-requires Inv-loop μ-loop
+next-piece-if-spent-requires c κs =
     let s = c .before .before .before .before in
     let g = c .before .loop .inv in
     (placed-more (search needs) (s .pre .0), g .stands, omega (arith, g .room, c .loop-test .taken))
 
-lesser-requires : tie.Need-lesser-requires Inv-loop μ-loop
-lesser-requires c κs = search needs
+min-requires : tie.Need-min-requires Inv-loop μ-loop
+min-requires c κs = search needs
 
--- the piece ends within the memory
-inside : (c : tie.After-ready Inv-loop μ-loop) → c .ready .result .place .0 + c .ready .result .left ≤ length (c .before .before .loop .memory)
-inside c = rw (c .before .before .loop .inv .size) (c .ready .ensures .stands .inside _ (c .before .before .before .before .before .pre .0))
+-- The piece ends within the memory.
+inside : (c : tie.After-next-piece-if-spent Inv-loop μ-loop) → c .next-piece-if-spent .result .place .0 + c .next-piece-if-spent .result .left ≤ length (c .before .before .loop .memory)
+inside c = rw (c .before .before .loop .inv .size) (c .next-piece-if-spent .ensures .stands .inside _ (c .before .before .before .before .before .pre .0))
 
 add-e : tie.Need-add-e Inv-loop μ-loop
-add-e c = omega (arith, inside (c .before), c .lesser .ensures)
+add-e c = omega (arith, inside (c .before), c .min .ensures)
 
 sub-copy : tie.Need-sub-copy Inv-loop μ-loop
 sub-copy c = search needs
@@ -55,19 +55,19 @@ part-copy-start-2 : tie.Need-part-copy-start-2 Inv-loop μ-loop
 part-copy-start-2 c = search needs
 
 part-copy-end-2 : tie.Need-part-copy-end-2 Inv-loop μ-loop
-part-copy-end-2 c = omega (arith, inside (c .before .before), c .before .lesser .ensures)
+part-copy-end-2 c = omega (arith, inside (c .before .before), c .before .min .ensures)
 
 copy-requires : tie.Need-copy-requires Inv-loop μ-loop
 copy-requires c κs = search needs
 
 forward-requires : tie.Need-forward-requires Inv-loop μ-loop
-forward-requires c κs = omega (arith, inside (c .before .before .before .before .before .before), c .before .before .before .before .before .lesser .ensures)
+forward-requires c κs = omega (arith, inside (c .before .before .before .before .before .before), c .before .before .before .before .before .min .ensures)
 
 sub-rest : tie.Need-sub-rest Inv-loop μ-loop
-sub-rest c = omega (arith, c .before .before .before .before .before .before .lesser .ensures)
+sub-rest c = omega (arith, c .before .before .before .before .before .before .min .ensures)
 
 part-rest-start : tie.Need-part-rest-start Inv-loop μ-loop
-part-rest-start c = omega (arith, c .before .before .before .before .before .before .lesser .ensures)
+part-rest-start c = omega (arith, c .before .before .before .before .before .before .min .ensures)
 
 part-rest-end : tie.Need-part-rest-end Inv-loop μ-loop
 part-rest-end c = search needs
@@ -76,15 +76,15 @@ loop-less : tie.Need-loop-less Inv-loop μ-loop
 loop-less c =
     let u = c .before .before .before .before .before .before .before in
     let l = u .before .before .before in
-    rw (part-to-end (now (l .loop .rest)) (u .lesser .result))
-    (rw (length-drop (u .lesser .result) (now (l .loop .rest))) (omega (arith, u .lesser .ensures, u .before .ready .ensures .some, u .before .before .loop-test .taken)))
+    rw (part-to-end (now (l .loop .rest)) (u .min .result))
+    (rw (length-drop (u .min .result) (now (l .loop .rest))) (omega (arith, u .min .ensures, u .before .next-piece-if-spent .ensures .some, u .before .before .loop-test .taken)))
 
 loop-again : tie.Need-loop-again Inv-loop μ-loop
 loop-again c =
     let u = c .before .before .before .before .before .before .before in
     let l = u .before .before .before in
     rw (c .before .forward .ensures)
-    (storing-turn _ _ _ _ _ _ _ (now (l .loop .rest)) (l .loop .inv) (u .before .ready .ensures) _ (u .lesser .ensures) _ (inside (u .before)) (c .before .before .before .before .copy .ensures) (search needs))
+    (storing-turn _ _ _ _ _ _ _ (now (l .loop .rest)) (l .loop .inv) (u .before .next-piece-if-spent .ensures) _ (u .min .ensures) _ (inside (u .before)) (c .before .before .before .before .copy .ensures) (search needs))
 
 same-length : tie.Need-same-length Inv-loop μ-loop
 same-length c = c .before .loop .inv .size
@@ -99,8 +99,8 @@ scatter-spec =
     Inv-loop
     μ-loop
     loop-holds
-    ready-requires
-    lesser-requires
+    next-piece-if-spent-requires
+    min-requires
     add-e
     sub-copy
     part-copy-start

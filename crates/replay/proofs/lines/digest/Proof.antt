@@ -6,10 +6,10 @@ use Rattle.replay.proofs.lines.digest.Statement.{statement}
 use Rattle.replay.proofs.lines.digest.Tie as tie
 
 abbrev Inv-loop : tie.InvT-loop
-Inv-loop b sum₀ i₀ sum i = sum < 4294967291
+Inv-loop buffer sum₀ i₀ sum i = sum < 4294967291
 
 abbrev μ-loop : tie.MeasureT-loop
-μ-loop b sum₀ i₀ sum i = length b - i
+μ-loop buffer sum₀ i₀ sum i = length buffer - i
 
 loop-holds : tie.Need-loop-holds Inv-loop μ-loop
 loop-holds c = search needs

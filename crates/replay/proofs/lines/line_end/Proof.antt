@@ -6,10 +6,10 @@ use Rattle.replay.proofs.lines.line_end.Statement.{statement}
 use Rattle.replay.proofs.lines.line_end.Tie as tie
 
 abbrev Inv-loop : tie.InvT-loop
-Inv-loop all start i₀ i = (start ≤ i) × (i ≤ length all)
+Inv-loop text start i₀ i = (start ≤ i) × (i ≤ length text)
 
 abbrev μ-loop : tie.MeasureT-loop
-μ-loop all start i₀ i = length all - i
+μ-loop text start i₀ i = length text - i
 
 loop-holds : tie.Need-loop-holds Inv-loop μ-loop
 loop-holds c = search needs

@@ -1,4 +1,3 @@
--- The measure is what is left of the line.
 use Prim.Native.Nat.{_-_}
 use lib.ListN.{length}
 use borrow.Author.Needs.{needs}
@@ -23,11 +22,11 @@ wrapping-add-usize-requires c κs = search needs
 wrapping-add-usize-requires-2 : tie.Need-wrapping-add-usize-requires-2 Inv-loop μ-loop
 wrapping-add-usize-requires-2 c κs = search needs
 
-shared-slice-read-shifted : tie.Need-shared-slice-read-shifted Inv-loop μ-loop
-shared-slice-read-shifted c = search needs
+shared-slice-read-append-digit : tie.Need-shared-slice-read-append-digit Inv-loop μ-loop
+shared-slice-read-append-digit c = search needs
 
-shifted-requires : tie.Need-shifted-requires Inv-loop μ-loop
-shifted-requires c κs = search needs
+append-digit-requires : tie.Need-append-digit-requires Inv-loop μ-loop
+append-digit-requires c κs = search needs
 
 add-j : tie.Need-add-j Inv-loop μ-loop
 add-j c = search needs
@@ -51,8 +50,8 @@ number-spec =
     shared-slice-read-if1
     wrapping-add-usize-requires
     wrapping-add-usize-requires-2
-    shared-slice-read-shifted
-    shifted-requires
+    shared-slice-read-append-digit
+    append-digit-requires
     add-j
     loop-less
     loop-again

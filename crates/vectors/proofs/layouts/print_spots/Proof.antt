@@ -1,11 +1,11 @@
--- A verdict of 0 is what the walk asks.
+-- The layout is sound, as the walk requires.
 use borrow.Author.Needs.{needs}
 use Rattle.vectors.proofs.Fits.{few, located}
 use Rattle.vectors.proofs.layouts.print_spots.Statement.{statement}
 use Rattle.vectors.proofs.layouts.print_spots.Tie as tie
 
-j-requires : tie.Need-j-requires
-j-requires c κs = search needs
+make-j-requires : tie.Need-make-j-requires
+make-j-requires c κs = search needs
 
 judge-requires : tie.Need-judge-requires
 judge-requires c κs = search needs
@@ -19,11 +19,11 @@ returns c = search needs
 total-requires : tie.Need-total-requires
 total-requires c κs = few _ _ (c .before .before .judge .ensures) (c .enum-told .given .1)
 
-slice-aggregate-decimal-line : tie.Need-slice-aggregate-decimal-line
-slice-aggregate-decimal-line c = search needs
+slice-aggregate-print-decimal-line : tie.Need-slice-aggregate-print-decimal-line
+slice-aggregate-print-decimal-line c = search needs
 
-decimal-line-requires : tie.Need-decimal-line-requires
-decimal-line-requires c κs = search needs
+print-decimal-line-requires : tie.Need-print-decimal-line-requires
+print-decimal-line-requires c κs = search needs
 
 print-each-spot-requires : tie.Need-print-each-spot-requires
 print-each-spot-requires c κs =
@@ -37,12 +37,12 @@ pub print-spots-spec : {M : Type 1} → statement M
 print-spots-spec =
     tie.close
     (tie.spec
-    j-requires
+    make-j-requires
     judge-requires
     enum-told
     returns
     total-requires
-    slice-aggregate-decimal-line
-    decimal-line-requires
+    slice-aggregate-print-decimal-line
+    print-decimal-line-requires
     print-each-spot-requires
     returns-2)
