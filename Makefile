@@ -1,20 +1,27 @@
-# make            build/libgaroalva.a and build/libgaroalva.so; proves the crate, so rt must be on the path
-# make test       header, both examples against an installed copy, the Rust crate, the test program's own tests, tests/run
-# make bench      bench/run; QUICK=--quick for a short one
+# make            builds build/libgaroalva.a and build/libgaroalva.so; it proves the crate capi, so rt must be on the path
+# make test       tests the header, both libraries as installed, the C API, the Rust crate, the model, and the library
+#                 against the model
+# make bench      runs bench/run; QUICK=--quick for a short run
 # make install    PREFIX=/usr/local DESTDIR=
 # make clean
 
-VERSION := 1.0.0
+# 0.N.0, where N is the struct version that keys and sessions hold. A library with another N does not replace this one,
+# so N is in the soname. include/garoalva.h and rust/Cargo.toml have the version too; make test compares them.
+VERSION := 0.1.0
+ABI := $(basename $(VERSION))
 PREFIX ?= /usr/local
 CFLAGS ?= -O2
 
-SONAME := libgaroalva.so.1
+SONAME := libgaroalva.so.$(ABI)
 SHARED := libgaroalva.so.$(VERSION)
 STAGE := $(CURDIR)/build/stage
 WARNINGS := -Wall -Wextra -Werror -pedantic
+COMPILE := $(CC) -std=c11 $(CFLAGS) $(WARNINGS)
 CARGO := CARGO_TARGET_DIR=$(CURDIR)/build/cargo GAROALVA_LIB=$(CURDIR)/build cargo
-CRATE := --offline --manifest-path rust/Cargo.toml
+CRATE := --offline --locked --manifest-path rust/Cargo.toml
 PKG_CONFIG := PKG_CONFIG_PATH=$(STAGE)/lib/pkgconfig pkg-config
+WITH_SHARED := $$($(PKG_CONFIG) --cflags --libs garoalva)
+WITH_STATIC := $$($(PKG_CONFIG) --cflags garoalva) $$($(PKG_CONFIG) --variable=archive garoalva)
 
 PROVED := $(wildcard crates.txt) $(shell test -d crates && find crates -name '*.rt' -o -name '*.antt')
 
@@ -23,15 +30,25 @@ PROVED := $(wildcard crates.txt) $(shell test -d crates && find crates -name '*.
 
 all: build/libgaroalva.a build/libgaroalva.so
 
-build/libgaroalva.a: $(PROVED)
-	mkdir -p build
+build:
+	mkdir -p $@
+
+# The proved part of the library: the nine calls.
+build/libcapi.a: $(PROVED) | build
 	@echo 'proving the crate capi and what it rests on: some minutes the first time'
 	rt staticlib capi > build/prove.log || { cat build/prove.log; exit 1; }
 	cp target/staticlib/libcapi.a $@
 
-build/exports.map: Makefile
-	mkdir -p build
-	echo 'GAROALVA_1 { global: garoalva_*; local: *; };' > $@
+# The part in plain C: texts and version.
+build/text.o: c/text.c include/garoalva.h Makefile | build
+	$(COMPILE) -fPIC -Iinclude -c $< -o $@
+
+build/libgaroalva.a: build/libcapi.a build/text.o
+	cp build/libcapi.a $@
+	$(AR) rs $@ build/text.o
+
+build/exports.map: Makefile | build
+	echo 'GAROALVA_$(ABI) { global: garoalva_*; local: *; };' > $@
 
 build/$(SHARED): build/libgaroalva.a build/exports.map
 	$(CC) -shared -o $@ -Wl,-soname,$(SONAME) -Wl,--version-script=build/exports.map -Wl,-z,defs \
@@ -44,22 +61,24 @@ build/libgaroalva.so: build/$(SHARED)
 test: test-header test-c test-rust test-reference
 	tests/run
 
-# -Wpadded: where padding takes the rest of a field that is too narrow, sizes and offsets stay as asserted.
+# A field that is too narrow can leave all sizes and offsets as asserted, but then padding follows it: -Wpadded.
 test-header:
 	echo '#include "garoalva.h"' | $(CC) -x c -std=c11 $(WARNINGS) -Wpadded -Iinclude -fsyntax-only -
 	echo '#include "garoalva.h"' | $(CXX) -x c++ -std=c++11 $(WARNINGS) -Wpadded -Iinclude -fsyntax-only -
 
-# Both libraries, linked as docs/LINKING.md says.
+# The example and the tests of the C API, with each library, linked as docs/LINKING.md says.
 test-c: all
 	$(MAKE) install PREFIX=$(STAGE) DESTDIR=
-	$(CC) -std=c11 $(CFLAGS) $(WARNINGS) examples/protect.c -o build/protect-shared \
-	    $$($(PKG_CONFIG) --cflags --libs garoalva)
+	$(COMPILE) examples/protect.c -o build/protect-shared $(WITH_SHARED)
+	$(COMPILE) examples/protect.c -o build/protect-static $(WITH_STATIC)
 	LD_LIBRARY_PATH=$(STAGE)/lib build/protect-shared > build/protect-shared.txt
 	diff examples/expected.txt build/protect-shared.txt
-	$(CC) -std=c11 $(CFLAGS) $(WARNINGS) examples/protect.c -o build/protect-static \
-	    $$($(PKG_CONFIG) --cflags garoalva) $$($(PKG_CONFIG) --variable=archive garoalva)
 	build/protect-static > build/protect-static.txt
 	diff examples/expected.txt build/protect-static.txt
+	$(COMPILE) tests/c/*.c -o build/tests-shared $(WITH_SHARED)
+	$(COMPILE) tests/c/*.c -o build/tests-static $(WITH_STATIC)
+	LD_LIBRARY_PATH=$(STAGE)/lib build/tests-shared $(VERSION) $$($(PKG_CONFIG) --modversion garoalva)
+	build/tests-static $(VERSION)
 
 test-rust: build/libgaroalva.a
 	$(CARGO) test $(CRATE)

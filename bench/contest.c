@@ -14,9 +14,9 @@ static const run runs[CONTENDERS] = {
 
 enum { PAGE = 4096 };
 
-/* Long enough that reading the clock doesn't count. */
+/* A sample takes at least this long, so that reading the clock doesn't matter. */
 static const double sample_seconds = 2e-4;
-/* Runs above this need few placements. */
+/* A run that takes longer than this is measured with few placements. */
 static const double long_run = 1e-3;
 
 double processor_time(void) {
@@ -54,7 +54,7 @@ static bool checks(const struct scene *s, enum direction direction) {
     return s->shape.signing == COPYING || (s->shape.signing != PLAIN && direction == RECEIVE);
 }
 
-/* Runs a contender and says whether it found a bad block. */
+/* Runs a contender, and returns whether it found a bad block. */
 static bool found_bad(enum contender c, struct scene *s, enum direction direction) {
     s->bad_blocks = 0;
     runs[c](s, direction);
@@ -103,7 +103,7 @@ void verify(struct scene *s, enum direction direction) {
 }
 
 static double timed_runs(enum contender c, struct scene *s, enum direction direction, size_t shift, size_t times) {
-    volatile char moved[shift + 1]; /* moves the stack below it; touched, so that it is kept */
+    volatile char moved[shift + 1]; /* moves the stack below it; it is used, so that the compiler keeps it */
     moved[0] = 0;
     (void)moved[0];
     double start = processor_time();
@@ -116,15 +116,15 @@ double timed_run(enum contender c, struct scene *s, enum direction direction) {
     return timed_runs(c, s, direction, 0, 1);
 }
 
-/* What a contender was measured with so far: the best of each placement, each time in a batch of runs. */
+/* The measurements of a contender so far: the best time at each placement, each of a batch of runs. */
 struct series {
-    size_t batch; /* 0 for who doesn't take part */
+    size_t batch; /* runs in a batch; 0 if the contender doesn't take part */
     size_t placements;
     double best[MOST_PLACEMENTS];
     double spent;
 };
 
-/* The first run warms up, the second tells how many make a sample. */
+/* The first run warms up. From the time of the second follows how many runs make a sample. */
 static struct series first_series(enum contender c, struct scene *s, enum direction direction, struct effort effort) {
     timed_run(c, s, direction);
     double seconds = timed_run(c, s, direction);
@@ -148,8 +148,8 @@ static double mean(const struct series *x) {
     return x->placements == 0 ? 0 : sum / (double)x->placements;
 }
 
-/* The contenders take turns, so that whatever else the machine does meets all of them. */
-struct times measured(struct scene *s, enum direction direction, struct effort effort) {
+/* The contenders take turns, so that other work on the machine affects all of them alike. */
+struct times measure(struct scene *s, enum direction direction, struct effort effort) {
     struct series series[CONTENDERS] = {{0}};
     for (enum contender c = OURS; c < CONTENDERS; c++) {
         if (takes_part(c, s, direction))

@@ -4,7 +4,7 @@
 const size_t block_sizes[BLOCK_SIZES] = {512, 520, 4096, 4160};
 const size_t plain_counts[PLAIN_COUNTS] = {1, 4, 16, 64, 256, 1024};
 
-/* Above this factor we no longer call a cost flat. */
+/* A cost that grows by at most this factor is called flat. */
 static const double flat = 1.25;
 
 static void keep(struct finding *f, double value, const char *where) {
@@ -33,7 +33,7 @@ static void print_at_most(const char *claim, const struct finding per_signing[SI
         print_verdict(claim, signing_names[i], &per_signing[i], per_signing[i].value <= limit);
 }
 
-/* Speeds next to a peer's, each with the size that it was measured at. */
+/* Prints a verdict on speeds relative to a peer's, each with the size at which it was measured. */
 static void print_at_least(const char *claim, const struct finding *found, const size_t *sizes, size_t count,
                            double limit) {
     for (size_t i = 0; i < count; i++) {

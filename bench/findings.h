@@ -1,4 +1,4 @@
-/* The figures that the tables leave behind, and what the benchmark must show. */
+/* The worst figures of the tables, and the verdicts on what the benchmark must show. */
 #ifndef FINDINGS_H
 #define FINDINGS_H
 
@@ -7,10 +7,10 @@
 enum { BLOCK_SIZES = 4, PLAIN_COUNTS = 6 };
 
 extern const size_t block_sizes[BLOCK_SIZES];
-/* Numbers of pieces of 4,096 bytes over which unsigned transfers are held to memcpy. */
+/* The numbers of pieces of 4,096 bytes at which unsigned transfers are compared with memcpy. */
 extern const size_t plain_counts[PLAIN_COUNTS];
 
-/* The worst figure of its kind, and where it was seen. */
+/* The worst figure of a claim, and where it was measured. */
 struct finding {
     double value;
     char where[96];
@@ -18,16 +18,16 @@ struct finding {
 };
 
 struct findings {
-    struct finding length_growth[SIGNINGS]; /* cost per byte, dearest length to the shortest */
-    struct finding call_growth[SIGNINGS];   /* the same over the same memory */
+    struct finding length_growth[SIGNINGS]; /* cost per byte, of the dearest length to the shortest */
+    struct finding call_growth[SIGNINGS];   /* the same, with all lengths over the same memory */
     struct finding plain_to_memcpy[PLAIN_COUNTS];
     struct finding checksum_to_loop[BLOCK_SIZES];       /* guard and copy */
     struct finding checksum_guard_to_loop[BLOCK_SIZES]; /* the guard by itself */
-    struct finding packets_to_call[SIGNINGS];           /* time */
-    struct finding later_packets[SIGNINGS];             /* cost per packet, dearest tenth of a session to its first */
-    struct finding untested_to_call;                    /* time of plain packets in C that test nothing, to one call */
-    struct finding by_hand_to_call;                     /* the same by hand */
-    struct finding crc_to_loop;                         /* guard and copy */
+    struct finding packets_to_call[SIGNINGS];           /* time of packets to that of one call */
+    struct finding later_packets[SIGNINGS]; /* cost per packet, of the dearest tenth of a session to its first */
+    struct finding untested_to_call;        /* time of plain packets by a C call that tests nothing, to one call */
+    struct finding by_hand_to_call;         /* time of plain packets by a C call written by hand, to one call */
+    struct finding crc_to_loop;             /* guard and copy */
     struct finding crc_guard_to_loop;
     struct finding crc_to_isal_copy;
 };

@@ -1,4 +1,4 @@
-/* How our cost grows: with the length of a transfer, with the number of pieces, with the packets before. */
+/* How our cost grows with the length of a transfer, with the number of pieces, and with the packets received before. */
 #include "ours.h"
 #include "tables.h"
 #include <stdio.h>
@@ -19,17 +19,17 @@ static const struct {
 
 static const enum signing signings[] = {PLAIN, CRC_ZERO, CHECKSUM, COPYING};
 
-/* A quick run leaves both signed out: a CRC makes up most of its time too. */
+/* A quick run leaves COPYING out: like a CRC it spends most of its time on guards. */
 static size_t signings_measured(struct effort effort) { return effort.quick ? 3 : 4; }
 
-/* What the columns differ in, and the cost for each column and row, in ns per KiB of data. */
+/* The size that each column stands for, and the cost for each column and row, in ns per KiB of data. */
 struct figures {
     size_t columns;
     size_t sizes[MOST_COLUMNS];
     double cost[MOST_COLUMNS][ROWS];
 };
 
-/* The columns of a quick run are the first and the last. */
+/* A quick run has the first and the last column alone. */
 static struct figures figures_of(const size_t *sizes, size_t columns, struct effort effort) {
     struct figures f = {.columns = effort.quick ? 2 : columns};
     for (size_t i = 0; i < f.columns; i++)
@@ -39,7 +39,7 @@ static struct figures figures_of(const size_t *sizes, size_t columns, struct eff
 
 static double cost_of(const struct scene *s, double seconds) { return seconds * 1e9 / ((double)s->data_length / KIB); }
 
-/* The dearest column to the first. */
+/* Returns the cost of the dearest column, divided by that of the first. */
 static double growth(const struct figures *f, size_t row) {
     double dearest = 0;
     for (size_t i = 1; i < f->columns; i++)
@@ -77,15 +77,15 @@ static void keep_growth(struct finding *found, const struct figures *f) {
     }
 }
 
-/* One column, in buffers of its own. */
+/* Measures one column, in buffers of its own. */
 static void measure_column(struct shape shape, struct effort effort, double cost[ROWS]) {
-    struct scene s = scene_made(shape);
-    const struct times times[] = {measured(&s, SEND, effort), measured(&s, RECEIVE, effort)};
+    struct scene s = make_scene(shape);
+    const struct times times[] = {measure(&s, SEND, effort), measure(&s, RECEIVE, effort)};
     for (size_t row = 0; row < ROWS; row++)
         cost[row] = cost_of(&s, times[rows[row].direction].seconds[rows[row].contender]);
     if (found_error(&s))
         fail("a bad block was found where there is none", &s);
-    scene_freed(&s);
+    free_scene(&s);
 }
 
 /* --- the length of a transfer --- */
@@ -115,7 +115,7 @@ void print_lengths(struct effort effort, struct findings *found) {
 
 /* --- the length of a call, over the same memory --- */
 
-/* As many as the memory has room for, in equal shares for the shortest calls. */
+/* Returns how many blocks the memory has room for, as a multiple of the number of the shortest calls. */
 static size_t most_blocks(enum signing signing) {
     size_t shares = GAROALVA_MEMORY_LIMIT / (kibs[0] * KIB);
     return GAROALVA_MEMORY_LIMIT / memory_unit(signing, BLOCK) / shares * shares;
@@ -125,7 +125,7 @@ static bool another_round(int round, double start, struct effort effort, size_t 
     return round < effort.rounds || processor_time() - start < effort.seconds_each * (double)figures;
 }
 
-/* Each row runs once unmeasured, so that all find the caches as they leave them. */
+/* Each row first runs once without being measured, so that the caches are as its own run leaves them. */
 static void time_rows(struct scene *s, double best[ROWS]) {
     for (size_t row = 0; row < ROWS; row++) {
         timed_run(rows[row].contender, s, rows[row].direction);
@@ -138,15 +138,15 @@ static void time_rows(struct scene *s, double best[ROWS]) {
 }
 
 static void measure_call_sizes(enum signing signing, struct effort effort, struct figures *f) {
-    struct scene s = scene_made((struct shape){signing, BLOCK, most_blocks(signing), 1});
+    struct scene s = make_scene((struct shape){signing, BLOCK, most_blocks(signing), 1});
     double start = processor_time();
     for (int round = 0; another_round(round, start, effort, ROWS * f->columns); round++) {
         for (size_t i = 0; i < f->columns; i++) {
-            scene_cut(&s, GAROALVA_MEMORY_LIMIT / (f->sizes[i] * KIB));
+            cut_scene(&s, GAROALVA_MEMORY_LIMIT / (f->sizes[i] * KIB));
             time_rows(&s, f->cost[i]);
         }
     }
-    scene_freed(&s);
+    free_scene(&s);
 }
 
 void print_call_sizes(struct effort effort, struct findings *found) {
@@ -178,24 +178,24 @@ void print_pieces(struct effort effort) {
     }
 }
 
-/* --- the packets before --- */
+/* --- the packets received before --- */
 
 static void time_tenths(struct scene *s, size_t tenth, double best[TENTHS]) {
-    garoalva_session session = opened_session(s, 0);
+    garoalva_session session = open_session(s, 0);
     for (size_t i = 0; i < TENTHS; i++) {
         double start = processor_time();
-        session = fed_packets(s, session, i * tenth, (i + 1) * tenth);
+        session = receive_packets(s, session, i * tenth, (i + 1) * tenth);
         double seconds = processor_time() - start;
         if (best[i] == 0 || seconds < best[i])
             best[i] = seconds;
     }
-    finish_session(s, fed_packets(s, session, TENTHS * tenth, s->wire_length));
+    finish_session(s, receive_packets(s, session, TENTHS * tenth, s->wire_length));
 }
 
-/* In many pieces with a block less in each, which leaves room for the gaps between them. */
+/* With many pieces each has one block less, which leaves room for the gaps between them. */
 static void print_tenths(enum signing signing, size_t pieces, struct effort effort, struct findings *found) {
     size_t blocks = most_blocks(signing) - (pieces == 1 ? 0 : pieces);
-    struct scene s = scene_made((struct shape){signing, BLOCK, blocks, pieces});
+    struct scene s = make_scene((struct shape){signing, BLOCK, blocks, pieces});
     size_t packets = s.wire_length / PACKET / TENTHS;
     double best[TENTHS] = {0}, start = processor_time();
     for (int round = 0; another_round(round, start, effort, TENTHS); round++)
@@ -208,7 +208,7 @@ static void print_tenths(enum signing signing, size_t pieces, struct effort effo
         printf(" %6.0f |", best[i] * 1e9 / (double)packets);
     }
     puts("");
-    scene_freed(&s);
+    free_scene(&s);
 }
 
 void print_later_packets(struct effort effort, struct findings *found) {

@@ -1,4 +1,4 @@
-/* Our own calls over a scene. */
+/* Runs the library's calls on a scene. */
 #ifndef OURS_H
 #define OURS_H
 
@@ -6,24 +6,24 @@
 
 enum { PACKET = 1500 };
 
-/* How many of them the wire's stream makes. */
+/* Returns how many packets of this length the wire stream makes. */
 size_t packet_count(const struct scene *s);
 
-/* Send or receive, in the scene's number of calls. */
+/* Sends or receives, in the scene's number of calls. */
 void run_ours(struct scene *s, enum direction direction);
-/* Receives by packets, whatever the direction says, in as many sessions. */
+/* Receives by packets, whatever the direction, in as many sessions as the scene has calls. */
 void run_packets(struct scene *s, enum direction direction);
 
-/* As many packets without a byte, in one session. */
+/* Receives as many empty packets, in one session. */
 void run_empty(struct scene *s, enum direction direction);
 
-/* A session over one of the scene's calls. */
-garoalva_session opened_session(struct scene *s, size_t call);
-/* Feeds the wire's bytes from one place to another, in packets. */
-garoalva_session fed_packets(struct scene *s, garoalva_session session, size_t from, size_t to);
+/* Opens a session for one of the scene's calls. */
+garoalva_session open_session(struct scene *s, size_t call);
+/* Receives the wire's bytes from one place to another, in packets. */
+garoalva_session receive_packets(struct scene *s, garoalva_session session, size_t from, size_t to);
 void finish_session(struct scene *s, garoalva_session session);
 
-/* Whether a bad block was recorded, which is then forgotten. */
+/* Returns whether the key holds an error, and clears it. */
 bool found_error(struct scene *s);
 
 #endif

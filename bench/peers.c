@@ -7,7 +7,7 @@
 #endif
 
 typedef uint16_t (*guard_of)(uint16_t seed, const uint8_t *data, size_t length);
-/* Copies a block and gives its guard. */
+/* Copies a block and returns its guard. */
 typedef uint16_t (*guarded_copy)(uint16_t seed, uint8_t *to, const uint8_t *from, size_t length);
 
 static uint16_t crc_table[256];
@@ -172,18 +172,18 @@ void run_memcpy(struct scene *s, enum direction direction) {
     }
 }
 
-typedef garoalva_packed (*packet_call)(garoalva_session session, uint8_t *memory, size_t memory_length,
-                                       const uint8_t *bytes, size_t length);
+typedef garoalva_packet_result (*packet_call)(garoalva_session session, uint8_t *memory, size_t memory_length,
+                                              const uint8_t *bytes, size_t length);
 
 static void run_calls(struct scene *s, packet_call call) {
-    garoalva_packed packed = {.session = opened_session(s, 0)};
+    garoalva_packet_result packet = {.session = open_session(s, 0)};
     for (size_t from = 0; from < s->wire_length; from += PACKET) {
         size_t length = s->wire_length - from < PACKET ? s->wire_length - from : PACKET;
-        packed = call(packed.session, s->memory, s->memory_length, s->wire + from, length);
-        if (packed.answer != GAROALVA_DONE)
+        packet = call(packet.session, s->memory, s->memory_length, s->wire + from, length);
+        if (packet.answer != GAROALVA_ANSWER_DONE)
             fail("a packet in C was refused", s);
     }
-    finish_session(s, packed.session);
+    finish_session(s, packet.session);
 }
 
 void run_untested(struct scene *s, enum direction direction) {

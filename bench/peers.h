@@ -1,4 +1,4 @@
-/* What we are measured next to: each does the whole job of a scene, block by block. */
+/* The peers that the library is compared with. Each does the whole job of a scene, block by block. */
 #ifndef PEERS_H
 #define PEERS_H
 
@@ -10,28 +10,29 @@
 #define ISAL_MISSING true
 #endif
 
-/* Before anything else here. */
+/* Must be called before all other functions here. */
 void make_crc_table(void);
 
 uint16_t table_crc(uint16_t seed, const uint8_t *data, size_t length);
-/* The field of the block with this index, and its last four bytes alone. */
+/* Write the field of the block with this index, and its reference tag alone. */
 void put_field(uint8_t *field, uint16_t guard, size_t index);
 void put_reference(uint8_t *field, size_t index);
 
-/* The guards of the wire's blocks, checked, and nothing else: the loop's of the next, and ISA-L's. */
+/* Check the guards of the wire's blocks and do nothing else: with the guard loop of run_loop, and with ISA-L. */
 void run_loop_guard(struct scene *s, enum direction direction);
 void run_isal_guard(struct scene *s, enum direction direction);
-/* A guard loop in plain C, then memcpy: a table CRC, or the checksum byte by byte. */
+/* Runs a guard loop in plain C, then memcpy. The loop is a table CRC, or the checksum byte by byte. */
 void run_loop(struct scene *s, enum direction direction);
-/* ISA-L's crc16_t10dif, then memcpy; and its crc16_t10dif_copy. Not for checksums. */
+/* Run ISA-L's crc16_t10dif, then memcpy; and its crc16_t10dif_copy. Neither is for checksums. */
 void run_isal(struct scene *s, enum direction direction);
 void run_isal_copy(struct scene *s, enum direction direction);
-/* Packets by calls that test nothing, for unsigned scenes of one piece: what no call by value can do without. */
+/* Receives packets by a call that tests nothing, for unsigned scenes of one piece: the least cost of a call by value.
+ */
 void run_untested(struct scene *s, enum direction direction);
-/* Packets by hand, for unsigned scenes. */
+/* Receives packets by the call written by hand, for unsigned scenes. */
 void run_by_hand(struct scene *s, enum direction direction);
-/* The memory stream's bytes, piece by piece: no guards, no fields. What is signed stays as it is, and the bytes go to
- * the spare buffer. */
+/* Copies the memory stream's bytes, piece by piece, without guards and fields. If the scene is signed they go to the
+ * spare buffer, so that memory and wire keep their fields. */
 void run_memcpy(struct scene *s, enum direction direction);
 
 #endif

@@ -48,7 +48,8 @@ static garoalva_domain domain(const struct scene *s, bool is_signed) {
     };
 }
 
-/* Pieces lie in memory one after the other with a gap between: entries first, then their repeats. */
+/* The pieces lie in memory one after the other, with a gap between: repeat 0 of all entries, then repeat 1, and so on.
+ */
 static garoalva_layout layout(const struct scene *s) {
     uint32_t used = s->shape.pieces < GAROALVA_ENTRIES ? (uint32_t)s->shape.pieces : GAROALVA_ENTRIES;
     garoalva_layout made = {.used = used, .repeat = (uint32_t)s->shape.pieces / used};
@@ -66,8 +67,9 @@ static garoalva_key key(const struct scene *s) {
                       .wire = domain(s, s->shape.signing != PLAIN),
                       .check_mask = 0xFF},
     };
-    garoalva_configured configured = garoalva_configure(garoalva_fresh(), s->memory, s->memory_length, configuration);
-    if (configured.answer != GAROALVA_DONE)
+    garoalva_configure_result configured =
+        garoalva_configure(garoalva_fresh(), s->memory, s->memory_length, configuration);
+    if (configured.answer != GAROALVA_ANSWER_DONE)
         fail("configure was refused", s);
     return configured.key;
 }
@@ -85,7 +87,7 @@ static void fill_memory(struct scene *s) {
     }
 }
 
-struct scene scene_made(struct shape shape) {
+struct scene make_scene(struct shape shape) {
     struct scene s = {.shape = shape, .calls = 1};
     s.memory_unit = memory_unit(shape.signing, shape.block);
     s.wire_unit = shape.block + (shape.signing == PLAIN ? 0 : FIELD);
@@ -103,7 +105,7 @@ struct scene scene_made(struct shape shape) {
     return s;
 }
 
-void scene_cut(struct scene *s, size_t calls) {
+void cut_scene(struct scene *s, size_t calls) {
     size_t per_call = s->shape.blocks / calls;
     s->calls = calls;
     for (size_t i = 0; i < s->shape.blocks; i++) {
@@ -114,7 +116,7 @@ void scene_cut(struct scene *s, size_t calls) {
     }
 }
 
-void scene_freed(struct scene *s) {
+void free_scene(struct scene *s) {
     free(s->memory);
     free(s->wire);
     free(s->spare);

@@ -9,36 +9,37 @@ enum { FIELD = GAROALVA_FIELD_SIZE, APPLICATION_TAG = 0x1234, REFERENCE_TAG = 10
 
 enum direction { SEND, RECEIVE };
 
-/* What the wire and the memory are signed with. COPYING: both by one CRC domain, so that fields are copied. */
+/* How wire and memory are signed. With COPYING both have the same CRC domain, so that fields are copied. */
 enum signing { PLAIN, CRC_ZERO, CRC_ONES, CHECKSUM, COPYING, SIGNINGS };
 
 extern const char *const signing_names[SIGNINGS];
 
 struct shape {
     enum signing signing;
-    size_t block; /* data bytes; for PLAIN too, where it only sets the sizes below */
+    size_t block; /* data bytes of a block; with PLAIN it only sets the sizes below */
     size_t blocks;
-    size_t pieces; /* of memory, each with the same number of whole blocks */
+    size_t pieces; /* pieces of memory, each with the same number of whole blocks */
 };
 
 struct scene {
     struct shape shape;
-    size_t memory_unit, wire_unit; /* bytes of a block in either stream, with its field if it has one */
-    size_t piece, stride;          /* a piece's bytes, and from the start of one to the start of the next */
+    size_t memory_unit, wire_unit; /* bytes of a block in each stream, with its field if it has one */
+    size_t piece, stride;          /* bytes of a piece, and from the start of one piece to the start of the next */
     size_t memory_length, wire_length, data_length;
     uint8_t *memory, *wire;
     uint8_t *spare; /* room for either stream */
-    size_t calls;   /* of ours that move an equal share of the blocks each; 1 at first */
+    size_t calls;   /* calls of the library, each of which moves an equal share of the blocks; 1 at first */
     garoalva_key key;
-    size_t bad_blocks; /* that peers have found */
+    size_t bad_blocks; /* bad blocks that peers have found */
 };
 
-/* Memory holds a pattern, with right fields where it is signed; the wire holds the stream that a send gives. */
-struct scene scene_made(struct shape shape);
-void scene_freed(struct scene *s);
+/* Makes a scene. Memory holds a pattern, with right fields if it is signed; the wire holds what a send of it writes. */
+struct scene make_scene(struct shape shape);
+void free_scene(struct scene *s);
 
-/* Has our calls move a share of the blocks each, whose reference tags begin anew. Peers go on in one run. */
-void scene_cut(struct scene *s, size_t calls);
+/* Makes the library move the blocks in this many calls, each of which begins the reference tags anew. Peers still move
+ * all blocks in one run. */
+void cut_scene(struct scene *s, size_t calls);
 
 size_t memory_unit(enum signing signing, size_t block);
 uint16_t scene_seed(const struct scene *s);

@@ -1,4 +1,4 @@
-/* Our transfers next to the peers. */
+/* The library's transfers, compared with the peers. */
 #include "ours.h"
 #include "peers.h"
 #include "tables.h"
@@ -61,13 +61,13 @@ static void keep_ratios(const struct scene *s, enum direction direction, struct 
         keep_highest(&f->packets_to_call[signing], packets / ours, place(s, "packets", packets));
 }
 
-/* Gives the times of its receive. */
+/* Prints the rows of a scene, and returns the times of its receive. */
 static struct times print_scene(struct shape shape, struct effort effort, struct findings *f) {
-    struct scene s = scene_made(shape);
+    struct scene s = make_scene(shape);
     struct times received = {{0}};
     for (enum direction direction = SEND; direction <= RECEIVE; direction++) {
         verify(&s, direction);
-        struct times t = measured(&s, direction, effort);
+        struct times t = measure(&s, direction, effort);
         print_row(&s, direction_names[direction], t, OURS);
         if (direction == RECEIVE) {
             print_row(&s, "packets", t, PACKETS);
@@ -75,7 +75,7 @@ static struct times print_scene(struct shape shape, struct effort effort, struct
         }
         keep_ratios(&s, direction, t, f);
     }
-    scene_freed(&s);
+    free_scene(&s);
     fflush(stdout);
     return received;
 }
@@ -155,9 +155,9 @@ void print_calls(struct effort effort, struct findings *f) {
         "|---:|---:|---:|---:|---:|---:|---:|---:|\n",
         PACKET, PACKET);
     for (size_t i = 0; i < sizeof pieces / sizeof *pieces; i++) {
-        struct scene s = scene_made((struct shape){PLAIN, 4096, 256, pieces[i]});
+        struct scene s = make_scene((struct shape){PLAIN, 4096, 256, pieces[i]});
         verify(&s, RECEIVE);
-        struct times t = measured(&s, RECEIVE, effort);
+        struct times t = measure(&s, RECEIVE, effort);
         double untested = t.seconds[UNTESTED] / t.seconds[OURS], by_hand = t.seconds[BY_HAND] / t.seconds[OURS];
         printf("| %6zu |", pieces[i]);
         for (size_t j = 0; j < sizeof callers / sizeof *callers; j++)
@@ -170,7 +170,7 @@ void print_calls(struct effort effort, struct findings *f) {
         if (untested > 0)
             keep_highest(&f->untested_to_call, untested, where);
         keep_highest(&f->by_hand_to_call, by_hand, where);
-        scene_freed(&s);
+        free_scene(&s);
     }
 }
 
@@ -178,9 +178,9 @@ void print_plain_pieces(struct effort effort, struct findings *f) {
     printf("\n## Unsigned transfers over pieces of 4,096 bytes, in MB per second\n\n"
            "| call    | pieces |     ours |   memcpy | /memcpy |\n|---|---:|---:|---:|---:|\n");
     for (size_t i = 0; i < PLAIN_COUNTS; i++) {
-        struct scene s = scene_made((struct shape){PLAIN, 4096, plain_counts[i], plain_counts[i]});
+        struct scene s = make_scene((struct shape){PLAIN, 4096, plain_counts[i], plain_counts[i]});
         for (enum direction direction = SEND; direction <= RECEIVE; direction++) {
-            struct times t = measured(&s, direction, effort);
+            struct times t = measure(&s, direction, effort);
             printf("| %-7s | %6zu |", direction_names[direction], plain_counts[i]);
             print_speed(s.data_length, t.seconds[OURS]);
             print_speed(s.data_length, t.seconds[MEMCPY]);
@@ -188,6 +188,6 @@ void print_plain_pieces(struct effort effort, struct findings *f) {
             puts("");
             keep_lowest(&f->plain_to_memcpy[i], t.seconds[MEMCPY] / t.seconds[OURS], direction_names[direction]);
         }
-        scene_freed(&s);
+        free_scene(&s);
     }
 }

@@ -1,6 +1,7 @@
 /*
- * Protects a buffer, sends it, damages one bit on the wire, receives it by packets, and prints what check says.
- * Every answer is looked at, and the key or session that a call gives back is the one to go on with.
+ * Protects a buffer, sends it, receives it by packets, damages one bit on the wire, receives it again, and prints what
+ * garoalva_check returns each time. The program looks at every answer, and goes on with the key or session that a call
+ * returned.
  */
 #include <garoalva.h>
 #include <inttypes.h>
@@ -10,8 +11,8 @@
 enum { BLOCK = 512, BLOCKS = 8, DATA = BLOCKS * BLOCK, WIRE = BLOCKS * (BLOCK + GAROALVA_FIELD_SIZE), PACKET = 1500 };
 
 static void stop_if_refused(const char *call, uint64_t answer) {
-    if (answer != GAROALVA_DONE) {
-        fprintf(stderr, "%s was refused: %" PRIu64 "\n", call, answer);
+    if (answer != GAROALVA_ANSWER_DONE) {
+        fprintf(stderr, "%s was refused: %s\n", call, garoalva_answer_text(answer));
         exit(EXIT_FAILURE);
     }
 }
@@ -28,38 +29,32 @@ static garoalva_key configured_key(const uint8_t *memory) {
                                .reference_tag = 1000,
                                .flags = GAROALVA_REMAP},
                       .check_mask = GAROALVA_MASK_GUARD | GAROALVA_MASK_APPLICATION | GAROALVA_MASK_REFERENCE}};
-    garoalva_configured configured = garoalva_configure(garoalva_fresh(), memory, DATA, configuration);
+    garoalva_configure_result configured = garoalva_configure(garoalva_fresh(), memory, DATA, configuration);
     stop_if_refused("configure", configured.answer);
     return configured.key;
 }
 
 static garoalva_key receive_by_packets(garoalva_key key, uint8_t *memory, const uint8_t *wire) {
-    garoalva_opened opened = garoalva_open(key, memory, DATA, 0, DATA);
+    garoalva_open_result opened = garoalva_open(key, memory, DATA, 0, DATA);
     stop_if_refused("open", opened.answer);
-    garoalva_packed packed = {.session = opened.session};
+    garoalva_packet_result packet = {.session = opened.session};
     for (size_t at = 0; at < WIRE; at += PACKET) {
         size_t length = WIRE - at < PACKET ? WIRE - at : PACKET;
-        packed = garoalva_packet(packed.session, memory, DATA, wire + at, length);
-        stop_if_refused("packet", packed.answer);
-        printf("packet of %zu bytes: %" PRIu64 " taken, %" PRIu64 " written\n", length, packed.taken, packed.written);
+        packet = garoalva_packet(packet.session, memory, DATA, wire + at, length);
+        stop_if_refused("packet", packet.answer);
+        printf("packet of %zu bytes: %" PRIu64 " taken, %" PRIu64 " written\n", length, packet.taken, packet.written);
     }
-    garoalva_finished finished = garoalva_finish(packed.session);
+    garoalva_finish_result finished = garoalva_finish(packet.session);
     stop_if_refused("finish", finished.answer);
     return finished.key;
 }
 
 static garoalva_key print_check(garoalva_key key) {
-    static const char *const fields[] = {"", "guard", "reference tag", "application tag"};
-    garoalva_checked checked = garoalva_check(key);
+    garoalva_check_result checked = garoalva_check(key);
     stop_if_refused("check", checked.answer);
-    if (checked.type == GAROALVA_ERROR_NONE) {
-        puts("check: no error");
-    } else {
-        int digits = checked.type == GAROALVA_ERROR_REFERENCE ? 8 : 4;
-        printf("check: bad %s in the block at byte %" PRIu64 " of the input stream: its field says 0x%0*" PRIX64
-               ", the rule gives 0x%0*" PRIX64 "\n",
-               fields[checked.type], checked.offset, digits, checked.expected, digits, checked.actual);
-    }
+    char text[GAROALVA_ERROR_TEXT_SIZE];
+    garoalva_error_text(checked.error, text, sizeof text);
+    printf("check: %s\n", text);
     return checked.key;
 }
 
@@ -67,7 +62,7 @@ int main(void) {
     static uint8_t memory[DATA], wire[WIRE];
     for (size_t i = 0; i < DATA; i++)
         memory[i] = (uint8_t)(i * 7);
-    garoalva_transferred sent = garoalva_send(configured_key(memory), memory, DATA, wire, WIRE, 0, DATA);
+    garoalva_transfer_result sent = garoalva_send(configured_key(memory), memory, DATA, wire, WIRE, 0, DATA);
     stop_if_refused("send", sent.answer);
     printf("sent: %" PRIu64 " taken, %" PRIu64 " written\n", sent.taken, sent.written);
     garoalva_key key = print_check(receive_by_packets(sent.key, memory, wire));

@@ -1,4 +1,5 @@
-//! Protects a buffer, sends it, damages one bit on the wire, receives it by packets, and prints what check says.
+//! Protects a buffer, sends it, receives it by packets, damages one bit on the wire, receives it again, and prints what
+//! `check` returns each time.
 
 use garoalva::*;
 use std::error::Error;
@@ -34,7 +35,7 @@ fn configuration() -> Configuration {
 fn receive_by_packets(key: Key, memory: &mut [u8], wire: &[u8]) -> Result<Key, Box<dyn Error>> {
     let mut session = key.open(memory, START, DATA as u64)?;
     for packet in wire.chunks(PACKET) {
-        let Transferred { taken, written } = session.packet(memory, packet)?;
+        let Totals { taken, written } = session.packet(memory, packet)?;
         println!("packet of {} bytes: {taken} taken, {written} written", packet.len());
     }
     Ok(session.finish()?)
@@ -53,7 +54,7 @@ fn main() -> Result<(), Box<dyn Error>> {
     let mut wire = vec![0; BLOCKS * UNIT];
     let mut key = Key::new();
     key.configure(&memory, &configuration())?;
-    let Transferred { taken, written } = key.send(&memory, &mut wire, START, DATA as u64)?;
+    let Totals { taken, written } = key.send(&memory, &mut wire, START, DATA as u64)?;
     println!("sent: {taken} taken, {written} written");
     let mut key = receive_by_packets(key, &mut memory, &wire)?;
     print_check(&mut key)?;

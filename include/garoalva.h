@@ -1,19 +1,43 @@
 /*
- * Garoalva: moves blocks between scattered memory and the wire, and adds, checks, strips or copies the eight T10-DIF
- * bytes behind each block, as a network card's signature offload would.
+ * Garoalva: a network card's T10-DIF signature offload, in software.
  *
- * Every call answers for every input. It answers a number (garoalva_answer below) and, besides, the key or session that
- * the caller goes on with. A refused call changes nothing: the key or session comes back as it was, and no lent byte
- * is written.
+ * The library moves blocks of data between scattered memory and a wire buffer. On the way it adds, checks, strips or
+ * copies the eight-byte protection field after each block: guard (2 bytes), application tag (2) and reference tag (4),
+ * each with its high byte first.
  *
- * Keys and sessions are plain records, handed in and back by value. Their fields are for the library: keep the record
- * that came back last, copy it as you like, and change nothing in it. A record that was not made by these calls is
- * refused (GAROALVA_NOT_A_KEY, GAROALVA_NOT_A_SESSION) or, if it looks like one that was, used as it stands; no record
- * makes a call touch a byte outside the memory that it was lent.
+ *     garoalva_fresh        makes a key
+ *     garoalva_configure    sets a key's layout, domains and masks
+ *     garoalva_send         moves data from memory to the wire
+ *     garoalva_receive      moves data from the wire to memory
+ *     garoalva_open         begins a receive by packets, which may end anywhere: it turns a key into a session
+ *     garoalva_packet       receives one packet
+ *     garoalva_finish       ends the receive once all bytes have arrived: it turns the session back into a key
+ *     garoalva_abandon      ends the receive early
+ *     garoalva_check        returns the first error found, and clears it
+ *     garoalva_answer_text, garoalva_error_text, garoalva_version    words for answers and errors, and the version
  *
- * What the caller owes: each pointer is not null and points to as many bytes as the length beside it says, also where
- * that length is 0; bytes that a call writes don't overlap any other bytes lent to it, and nobody else touches what is
- * lent while the call runs. The calls keep no pointer and have no state of their own, so they may run in any thread.
+ * Words. A stream is what one side of a transfer holds: the data, with a field after each block if that side is signed.
+ * The input stream is in memory for send and on the wire for receive; the output stream is the other one. A layout says
+ * where the bytes of the memory stream lie in memory; each run of memory that it names is a piece.
+ *
+ * Answers. Each call is defined for all arguments. Its answer is 0 if it was done, else a number that says why it was
+ * refused: see enum garoalva_answer, whose prefix the comments below leave out. A refused call changes nothing: it
+ * writes no byte that it was lent, and the key or session stays as it was. A bad block is no refusal: the transfer goes
+ * on, the first error is recorded in the key, and garoalva_check returns it.
+ *
+ * Keys and sessions are plain structs, passed and returned by value. Their fields belong to the library. A struct that
+ * is not a key or session of this version is refused (1000, 1001). One that looks valid but came from elsewhere is used
+ * as it stands. No struct, whatever it holds, makes a call touch a byte that it was not lent.
+ *
+ * The caller's duties. No proof can see across the C API, so these are left to the caller:
+ *   - Each pointer points to as many bytes as the length beside it says. It may be null where that length is 0.
+ *   - The bytes that a call writes overlap no other bytes lent to the same call.
+ *   - While a call runs, nobody else touches the bytes lent to it.
+ *   - From open to finish or abandon, the same memory is lent with every packet, and between packets nobody else writes
+ *     it. Each call gets the session that open, or the call before, returned.
+ *   - The caller looks at each answer, and goes on with the key or session that the call returned. It may copy these
+ *     structs, and changes nothing in them.
+ * The calls keep no pointer, allocate nothing and have no state of their own, so any thread may make any of them.
  */
 #ifndef GAROALVA_H
 #define GAROALVA_H
@@ -25,31 +49,44 @@
 extern "C" {
 #endif
 
-#define GAROALVA_ENTRIES 16u             /* entries that a layout has room for */
-#define GAROALVA_PIECES 1024u            /* entries x repeat, at most */
-#define GAROALVA_MEMORY_LIMIT 16777216u  /* bytes of lent memory, at most */
-#define GAROALVA_FIELD_SIZE 8u           /* bytes behind each block */
+/* The version of this header: 0.N.0, where N is the struct version. garoalva_version returns the library's. */
+#define GAROALVA_VERSION "0.1.0"
+#define GAROALVA_STRUCT_VERSION 1u /* in the lowest byte of a key's and of a session's seal */
+
+#define GAROALVA_FIELD_SIZE 8u          /* bytes of the protection field after each block */
+#define GAROALVA_BLOCK_SIZE_MIN 8u      /* data bytes of a block, at least; they are a multiple of 8 */
+#define GAROALVA_BLOCK_SIZE_MAX 4160u   /* data bytes of a block, at most */
+#define GAROALVA_MEMORY_LIMIT 16777216u /* bytes of memory, at most */
+#define GAROALVA_ENTRIES 16u            /* entries of a layout, at most */
+#define GAROALVA_PIECES 1024u           /* pieces of a layout (its entries times its repeat), at most */
+#define GAROALVA_ERROR_TEXT_SIZE 128u   /* bytes that hold any text of garoalva_error_text and its final 0 */
 
 /* garoalva_domain.kind */
-enum { GAROALVA_KIND_NONE = 0, GAROALVA_KIND_T10_DIF = 1 };
-
-/* garoalva_domain.guard_type */
-enum { GAROALVA_GUARD_CRC = 0, GAROALVA_GUARD_CHECKSUM = 1 };
-
-/* garoalva_domain.flags; the two escapes exclude each other */
 enum {
-    GAROALVA_REMAP = 1,                 /* the reference tag counts up with each block */
-    GAROALVA_ESCAPE_APPLICATION = 2,    /* application tag FFFF found: the guard is not checked */
-    GAROALVA_ESCAPE_BOTH = 4            /* the same, if the reference tag found is FFFFFFFF too */
+    GAROALVA_KIND_NONE = 0,   /* the stream holds the data alone */
+    GAROALVA_KIND_T10_DIF = 1 /* the side is signed: a field follows each block */
+};
+
+/* garoalva_domain.guard_type; a guard covers a block's data alone */
+enum {
+    GAROALVA_GUARD_CRC = 0,     /* polynomial 0x8BB7, high bit first, starting from the seed */
+    GAROALVA_GUARD_CHECKSUM = 1 /* ones' complement sum of the seed and the data's 16-bit words, inverted */
+};
+
+/* garoalva_domain.flags: any of these, but not both escapes. An escape takes effect in the input domain alone. */
+enum {
+    GAROALVA_REMAP = 1,              /* the reference tag counts up by 1 with each block; 0 follows 0xFFFFFFFF */
+    GAROALVA_ESCAPE_APPLICATION = 2, /* a guard is not checked if the application tag found is 0xFFFF */
+    GAROALVA_ESCAPE_BOTH = 4         /* the same, but only if the reference tag found is 0xFFFFFFFF too */
 };
 
 /* garoalva_signature.attribute_flags */
-enum { GAROALVA_COPY_MASK_GIVEN = 1 };
+enum { GAROALVA_COPY_MASK_GIVEN = 1 /* copy_mask says which bytes are copied */ };
 
-/* check_mask and copy_mask: bit 7 stands for the first byte of the field, bit 0 for the last */
+/* check_mask and copy_mask have a bit for each byte of a field: bit 7 for the first byte, bit 0 for the last. */
 enum { GAROALVA_MASK_GUARD = 0xC0, GAROALVA_MASK_APPLICATION = 0x30, GAROALVA_MASK_REFERENCE = 0x0F };
 
-/* garoalva_checked.type */
+/* garoalva_error.type */
 enum {
     GAROALVA_ERROR_NONE = 0,
     GAROALVA_ERROR_GUARD = 1,
@@ -57,77 +94,92 @@ enum {
     GAROALVA_ERROR_APPLICATION = 3
 };
 
-/* What a call answers. */
+/* The answers: why a call was refused, or 0. garoalva_answer_text has a sentence for each. */
 enum garoalva_answer {
-    GAROALVA_DONE = 0,
-    GAROALVA_BAD_DOMAIN = 1,        /* kind, block size, guard type, seed, flags or attribute flags */
-    GAROALVA_ESCAPE_TAG = 2,        /* an escape flag with the configured application tag FFFF */
-    GAROALVA_COPY_MASK = 3,         /* a copy mask given, but not two signatures of one block size */
-    GAROALVA_BLOCK_SIZES = 4,       /* two signatures with unlike block sizes */
-    GAROALVA_MALFORMED_LAYOUT = 5,  /* entries not 1 to 16, repeat 0, a count 0, or too many pieces */
-    GAROALVA_OUTSIDE_MEMORY = 6,    /* a piece ends beyond the memory */
-    GAROALVA_OVERLAP = 7,           /* two pieces share a byte */
-    GAROALVA_MEMORY_LENGTH = 8,     /* memory above the limit, or of another length than configured */
-    GAROALVA_PARTIAL_BLOCK = 9,     /* data length not a multiple of a block size */
-    GAROALVA_PAST_LAYOUT = 10,      /* the memory stream ends beyond the layout */
-    GAROALVA_SHORT_WIRE = 11,       /* wire buffer shorter than the wire stream */
-    GAROALVA_LONG_PACKET = 12,      /* packet longer than the wire bytes still to come */
-    GAROALVA_BYTES_TO_COME = 13,    /* finish before all wire bytes came */
-    GAROALVA_NOT_CONFIGURED = 14,   /* the key was never configured */
-    GAROALVA_NOT_A_KEY = 1000,      /* the record is no key of this version */
-    GAROALVA_NOT_A_SESSION = 1001   /* the record is no session of this version, or one that has ended */
+    GAROALVA_ANSWER_DONE = 0,
+    GAROALVA_ANSWER_BAD_DOMAIN = 1,       /* kind, block size, guard type, seed, flags or attribute flags not valid */
+    GAROALVA_ANSWER_ESCAPE_TAG = 2,       /* an escape flag in a signed domain with application tag 0xFFFF */
+    GAROALVA_ANSWER_COPY_MASK = 3,        /* a copy mask given, but not both sides signed with one block size */
+    GAROALVA_ANSWER_BLOCK_SIZES = 4,      /* both sides signed, with different block sizes */
+    GAROALVA_ANSWER_MALFORMED_LAYOUT = 5, /* no entries or too many, repeat 0, a count 0, or too many pieces */
+    GAROALVA_ANSWER_OUTSIDE_MEMORY = 6,   /* a piece ends beyond the memory */
+    GAROALVA_ANSWER_OVERLAP = 7,          /* two pieces share a byte */
+    GAROALVA_ANSWER_MEMORY_LENGTH = 8,    /* memory above the limit, or not of the configured length */
+    GAROALVA_ANSWER_PARTIAL_BLOCK = 9,    /* data length not a multiple of the block size of a signed side */
+    GAROALVA_ANSWER_PAST_LAYOUT = 10,     /* the memory stream ends beyond the layout */
+    GAROALVA_ANSWER_SHORT_WIRE = 11,      /* the wire buffer is shorter than the wire stream */
+    GAROALVA_ANSWER_LONG_PACKET = 12,     /* the packet is longer than the wire bytes still to come */
+    GAROALVA_ANSWER_BYTES_TO_COME = 13,   /* finish, but not all wire bytes have arrived */
+    GAROALVA_ANSWER_NOT_CONFIGURED = 14,  /* the key was never configured */
+    GAROALVA_ANSWER_NOT_A_KEY = 1000,     /* the struct is not a key of this version */
+    GAROALVA_ANSWER_NOT_A_SESSION = 1001  /* the struct is not a session of this version, or the session has ended */
 };
 
-/* One side of a transfer. With kind 0 all other numbers are ignored. */
+/* One side of a transfer. If kind is GAROALVA_KIND_NONE, the other numbers are ignored. */
 typedef struct {
-    uint32_t kind;
-    uint32_t block_size;       /* a multiple of 8 from 8 to 4,160 */
-    uint32_t guard_type;
-    uint32_t reference_tag;    /* of block 0 */
-    uint16_t seed;             /* 0 or 0xFFFF */
-    uint16_t application_tag;
-    uint32_t flags;
+    uint32_t kind;            /* GAROALVA_KIND_.. */
+    uint32_t block_size;      /* data bytes: a multiple of 8 from GAROALVA_BLOCK_SIZE_MIN to GAROALVA_BLOCK_SIZE_MAX */
+    uint32_t guard_type;      /* GAROALVA_GUARD_.. */
+    uint32_t reference_tag;   /* of the first block of a transfer, whatever the transfer's offset */
+    uint16_t seed;            /* what a guard starts from: 0 or 0xFFFF */
+    uint16_t application_tag; /* of every block */
+    uint32_t flags;           /* GAROALVA_REMAP, GAROALVA_ESCAPE_.. */
 } garoalva_domain;
 
-/* Repeat r of an entry covers count bytes of memory from start + r * (count + skip). */
+/* An entry of a layout. Its repeat r is a piece of `count` bytes of memory from start + r * (count + skip) on. */
 typedef struct {
     uint64_t start;
     uint32_t count;
     uint32_t skip;
 } garoalva_entry;
 
-/* The layout's bytes run over the used entries in order, then over their next repeat, and so on. */
+/* Where the memory stream lies: in repeat 0 of each used entry, in order, then in repeat 1 of each, and so on. */
 typedef struct {
     garoalva_entry entries[GAROALVA_ENTRIES];
-    uint32_t used;
-    uint32_t repeat;
+    uint32_t used;   /* entries that count: the first ones */
+    uint32_t repeat; /* 1 for a plain list of pieces */
 } garoalva_layout;
 
+/*
+ * What the two streams hold, and which bytes of a field are checked and copied.
+ *
+ * An input field is bad if one of its bytes in check_mask differs from what the input domain's rule computes; a guard
+ * that an escape applies to is left out.
+ *
+ * With GAROALVA_COPY_MASK_GIVEN, the bytes of an output field in copy_mask are copied from the input field, and the
+ * others are generated by the output domain's rule. Without it copy_mask is ignored: if both sides are signed, the
+ * guard is copied if guard type and seed agree, the application tag if it agrees, and the reference tag if it and the
+ * remap flag agree. The output is the same whether an input field is good or bad.
+ */
 typedef struct {
     garoalva_domain memory;
     garoalva_domain wire;
-    uint32_t attribute_flags;
+    uint32_t attribute_flags; /* 0 or GAROALVA_COPY_MASK_GIVEN */
     uint8_t check_mask;
-    uint8_t copy_mask;         /* looked at with GAROALVA_COPY_MASK_GIVEN alone */
-    uint16_t spare;            /* ignored */
+    uint8_t copy_mask;
+    uint16_t spare; /* ignored */
 } garoalva_signature;
 
+/* What a key is configured with. */
 typedef struct {
     garoalva_layout layout;
     garoalva_signature signature;
 } garoalva_configuration;
 
-/* The first error of a key or session; all four are 0 where there is none. */
+/*
+ * The first error of a key or session: the first bad block, and in it the first bad one of guard, application tag and
+ * reference tag, in this order. All four numbers are 0 if there is no error.
+ */
 typedef struct {
-    uint32_t type;
-    uint32_t actual;
-    uint32_t expected;
-    uint32_t offset;
+    uint32_t type;     /* GAROALVA_ERROR_.. */
+    uint32_t actual;   /* the whole guard or tag that the input domain's rule computes for the block */
+    uint32_t expected; /* the whole guard or tag that was found in the field after the block */
+    uint32_t offset;   /* where the block's data begins in the input stream */
 } garoalva_error;
 
-/* A key: the library's own record. */
+/* A key. Its fields belong to the library. */
 typedef struct {
-    uint64_t seal;
+    uint64_t seal; /* says that this is a key, and of which struct version */
     uint64_t memory_length;
     garoalva_layout layout;
     garoalva_signature signature;
@@ -136,7 +188,7 @@ typedef struct {
     uint32_t spare;
 } garoalva_key;
 
-/* Where a stream stands: its block under way, how far into it, and its guard so far. */
+/* How far a session is in one of its streams: the block in progress, the bytes of it that are done, and its guard. */
 typedef struct {
     uint64_t index;
     uint64_t at;
@@ -145,94 +197,231 @@ typedef struct {
     uint16_t spare;
 } garoalva_side;
 
-/* A received transfer under way: the library's own record. */
+/* A session: a receive by packets that is in progress. Its fields belong to the library. */
 typedef struct {
-    uint64_t seal;
+    uint64_t seal; /* says that this is a session, and of which struct version */
     garoalva_key key;
-    uint64_t start;
-    uint64_t length;
+    uint64_t offset;
+    uint64_t data_length;
     garoalva_side input;
     garoalva_side output;
     garoalva_error error;
-    uint8_t held[8];
+    uint8_t held[GAROALVA_FIELD_SIZE];
 } garoalva_session;
 
-/* What the calls give back: every number is 64 bits wide. */
+/* The results. Where a comment says "if done", the answer is GAROALVA_ANSWER_DONE; any other answer is a refusal. */
 typedef struct {
-    garoalva_key key;          /* go on with this one */
+    garoalva_key key; /* go on with this one */
     uint64_t answer;
-} garoalva_configured;
+} garoalva_configure_result;
 
 typedef struct {
-    garoalva_key key;          /* go on with this one */
+    garoalva_key key; /* go on with this one */
     uint64_t answer;
-    uint64_t taken;            /* bytes of the input stream, fields included */
-    uint64_t written;          /* bytes of the output stream, fields included */
-} garoalva_transferred;
+    uint64_t taken;   /* bytes of the input stream, with fields; 0 if refused */
+    uint64_t written; /* bytes of the output stream, with fields; 0 if refused */
+} garoalva_transfer_result;
 
 typedef struct {
-    garoalva_key key;          /* go on with this one */
-    uint64_t answer;           /* 0, or GAROALVA_NOT_A_KEY */
-    uint64_t type;             /* 0 if there was no error; then the next three are 0 too */
-    uint64_t actual;           /* the whole field that the input domain's rule gives */
-    uint64_t expected;         /* the whole field found */
-    uint64_t offset;           /* where the block's data begins in the input stream */
-} garoalva_checked;
-
-typedef struct {
-    garoalva_key key;          /* where refused, the key given */
-    garoalva_session session;  /* where done; else a record that is no session */
+    garoalva_key key; /* go on with this one */
     uint64_t answer;
-} garoalva_opened;
+    garoalva_error error; /* all 0 if there was none, or if refused */
+} garoalva_check_result;
 
 typedef struct {
-    garoalva_session session;  /* go on with this one */
+    garoalva_key key;         /* if refused, the key that was passed; if done, go on with the session instead */
+    garoalva_session session; /* if done; otherwise it is not a session */
     uint64_t answer;
-    uint64_t taken;            /* wire bytes accepted since open */
-    uint64_t written;          /* bytes put into memory since open */
-} garoalva_packed;
+} garoalva_open_result;
 
 typedef struct {
-    garoalva_key key;          /* where done; else a record that is no key */
-    garoalva_session session;  /* where refused, the session given; else a record that is none */
+    garoalva_session session; /* go on with this one */
     uint64_t answer;
-} garoalva_finished;
+    uint64_t taken;   /* wire bytes accepted since open; 0 if refused */
+    uint64_t written; /* bytes of the memory stream written since open; 0 if refused */
+} garoalva_packet_result;
 
 typedef struct {
-    garoalva_key key;          /* where done; else a record that is no key */
-    uint64_t answer;           /* 0, or GAROALVA_NOT_A_SESSION */
-} garoalva_abandoned;
+    garoalva_key key;         /* if done; otherwise it is not a key */
+    garoalva_session session; /* if refused, the session that was passed; otherwise it is not a session */
+    uint64_t answer;
+} garoalva_finish_result;
 
-/* A key that was never configured. */
+typedef struct {
+    garoalva_key key; /* if done; otherwise it is not a key */
+    uint64_t answer;
+} garoalva_abandon_result;
+
+/*
+ * garoalva_fresh - make a key.
+ *
+ * Returns a key that was never configured and holds no error.
+ */
 garoalva_key garoalva_fresh(void);
 
-/* Gives the key a configuration over a memory, of which the length alone is looked at. Answers 0 to 8. */
-garoalva_configured garoalva_configure(garoalva_key key, const uint8_t *memory, size_t memory_length,
-                                       garoalva_configuration configuration);
+/*
+ * garoalva_configure - set a key's configuration.
+ * key            the key to change
+ * memory         the memory that transfers will be lent; it is not read here, and only its length counts
+ * memory_length  at most GAROALVA_MEMORY_LIMIT
+ * configuration  layout, domains and masks
+ *
+ * Returns the key with this configuration, and answer 0. An error that is recorded in the key stays there.
+ *
+ * Refused with the first that applies of NOT_A_KEY (1000), MEMORY_LENGTH (8), BAD_DOMAIN (1), ESCAPE_TAG (2), COPY_MASK
+ * (3), BLOCK_SIZES (4), MALFORMED_LAYOUT (5), OUTSIDE_MEMORY (6) and OVERLAP (7). The key is then unchanged.
+ */
+garoalva_configure_result garoalva_configure(garoalva_key key, const uint8_t *memory, size_t memory_length,
+                                             garoalva_configuration configuration);
 
 /*
- * Memory to wire, and wire to memory. Offset: the layout byte at which the memory stream begins. Data length: the data
- * bytes alone. Answers 0, 8 to 11 and 14. The first error found goes into the key, if it held none: see check.
+ * garoalva_send - move data from memory to the wire.
+ * key            a configured key
+ * memory         holds the input stream, where the key's layout says
+ * memory_length  the length that the key was configured with
+ * wire           buffer for the output stream; bytes after the stream are not written
+ * wire_length    at least the length of the wire stream
+ * offset         byte of the layout at which the memory stream begins
+ * data_length    bytes of data, without fields; whole blocks if a side is signed; may be 0
+ *
+ * Returns the key, answer 0, and the bytes taken from memory and written to the wire. If the key held no error and a
+ * block is bad, the returned key holds the first error: see garoalva_check.
+ *
+ * Refused with the first that applies of NOT_A_KEY (1000), NOT_CONFIGURED (14), MEMORY_LENGTH (8), PARTIAL_BLOCK (9),
+ * PAST_LAYOUT (10) and SHORT_WIRE (11). The key is then unchanged, and nothing is written.
  */
-garoalva_transferred garoalva_send(garoalva_key key, const uint8_t *memory, size_t memory_length, uint8_t *wire,
-                                   size_t wire_length, uint64_t offset, uint64_t data_length);
-garoalva_transferred garoalva_receive(garoalva_key key, uint8_t *memory, size_t memory_length, const uint8_t *wire,
-                                      size_t wire_length, uint64_t offset, uint64_t data_length);
-
-/* The first error since the last check, and the key without it. */
-garoalva_checked garoalva_check(garoalva_key key);
+garoalva_transfer_result garoalva_send(garoalva_key key, const uint8_t *memory, size_t memory_length, uint8_t *wire,
+                                       size_t wire_length, uint64_t offset, uint64_t data_length);
 
 /*
- * Receive by packets, which may end anywhere. Open answers 0, 8 to 10 and 14; packet 0, 8 and 12; finish 0 and 13.
- * Lend packet the memory of the transfer. Finish and abandon give the key back, with the first error in it.
- * packed = garoalva_packet(packed.session, ..) in a loop saves the compiler a copy of the session for each packet.
+ * garoalva_receive - move data from the wire to memory.
+ * key            a configured key
+ * memory         is written where the key's layout says, and nowhere else
+ * memory_length  the length that the key was configured with
+ * wire           holds the input stream; bytes after the stream are not read
+ * wire_length    at least the length of the wire stream
+ * offset         byte of the layout at which the memory stream begins
+ * data_length    bytes of data, without fields; whole blocks if a side is signed; may be 0
+ *
+ * Returns the key, answer 0, and the bytes taken from the wire and written to memory. If the key held no error and a
+ * block is bad, the returned key holds the first error: see garoalva_check.
+ *
+ * Refused with the first that applies of NOT_A_KEY (1000), NOT_CONFIGURED (14), MEMORY_LENGTH (8), PARTIAL_BLOCK (9),
+ * PAST_LAYOUT (10) and SHORT_WIRE (11). The key is then unchanged, and nothing is written.
  */
-garoalva_opened garoalva_open(garoalva_key key, const uint8_t *memory, size_t memory_length, uint64_t offset,
-                              uint64_t data_length);
-garoalva_packed garoalva_packet(garoalva_session session, uint8_t *memory, size_t memory_length, const uint8_t *bytes,
-                                size_t length);
-garoalva_finished garoalva_finish(garoalva_session session);
-garoalva_abandoned garoalva_abandon(garoalva_session session);
+garoalva_transfer_result garoalva_receive(garoalva_key key, uint8_t *memory, size_t memory_length, const uint8_t *wire,
+                                          size_t wire_length, uint64_t offset, uint64_t data_length);
+
+/*
+ * garoalva_check - return the first error since the last check.
+ * key            the key to check; it need not be configured
+ *
+ * Returns the key without the error, answer 0, and the error, which is all 0 if there was none. garoalva_error_text has
+ * a sentence for it.
+ *
+ * Refused with NOT_A_KEY (1000). The key is then unchanged.
+ */
+garoalva_check_result garoalva_check(garoalva_key key);
+
+/*
+ * garoalva_open - begin a receive by packets.
+ * key            a configured key
+ * memory         the memory that packets will be lent; it is not read here, and only its length counts
+ * memory_length  the length that the key was configured with
+ * offset         byte of the layout at which the memory stream begins
+ * data_length    bytes of data, without fields; whole blocks if a side is signed; may be 0
+ *
+ * Returns a session that holds the key, and answer 0.
+ *
+ * Refused with the first that applies of NOT_A_KEY (1000), NOT_CONFIGURED (14), MEMORY_LENGTH (8), PARTIAL_BLOCK (9)
+ * and PAST_LAYOUT (10). The key is then returned unchanged.
+ *
+ * A whole receive by packets. Each packet's result is the argument of the next call, which saves a copy of the session:
+ *
+ *     garoalva_open_result open = garoalva_open(key, memory, memory_length, 0, data_length);
+ *     if (open.answer != GAROALVA_ANSWER_DONE)
+ *         return refused(open.answer);
+ *     garoalva_packet_result packet = {.session = open.session};
+ *     while (next_packet(&bytes, &bytes_length)) {
+ *         packet = garoalva_packet(packet.session, memory, memory_length, bytes, bytes_length);
+ *         if (packet.answer != GAROALVA_ANSWER_DONE)
+ *             return refused(packet.answer);
+ *     }
+ *     garoalva_finish_result finish = garoalva_finish(packet.session);
+ *     if (finish.answer != GAROALVA_ANSWER_DONE)
+ *         return refused(finish.answer);
+ *     garoalva_check_result check = garoalva_check(finish.key);
+ */
+garoalva_open_result garoalva_open(garoalva_key key, const uint8_t *memory, size_t memory_length, uint64_t offset,
+                                   uint64_t data_length);
+
+/*
+ * garoalva_packet - receive the next bytes of the wire stream.
+ * session        the session that open, or the call before, returned
+ * memory         the memory of this receive, as open, or the call before, left it
+ * memory_length  the length that the key was configured with
+ * bytes          the packet, which may begin and end anywhere in the wire stream
+ * bytes_length   at most the wire bytes still to come; may be 0
+ *
+ * Returns the session, answer 0, and the totals since open. Data is written to memory at once. When a block is whole,
+ * with its field if the wire is signed, it is checked, and if memory is signed its field is written there.
+ *
+ * Refused with the first that applies of NOT_A_SESSION (1001), MEMORY_LENGTH (8) and LONG_PACKET (12). The session is
+ * then unchanged, nothing is written, and the receive can go on.
+ */
+garoalva_packet_result garoalva_packet(garoalva_session session, uint8_t *memory, size_t memory_length,
+                                       const uint8_t *bytes, size_t bytes_length);
+
+/*
+ * garoalva_finish - end a receive by packets, once all wire bytes have arrived.
+ * session        the session that open, or the call before, returned
+ *
+ * Returns the key that was passed to open, and answer 0. If that key held no error and a block is bad, the returned key
+ * holds the first error. Memory and key are then as one garoalva_receive of the same bytes would have left them.
+ *
+ * Refused with the first that applies of NOT_A_SESSION (1001) and BYTES_TO_COME (13). The session is then returned
+ * unchanged, and the receive can go on.
+ */
+garoalva_finish_result garoalva_finish(garoalva_session session);
+
+/*
+ * garoalva_abandon - end a receive by packets, whatever has arrived.
+ * session        the session that open, or the call before, returned
+ *
+ * Returns the key that was passed to open, and answer 0. If that key held no error and a block that arrived whole is
+ * bad, the returned key holds the first error. What has arrived stays in memory.
+ *
+ * Refused with NOT_A_SESSION (1001). The result then holds no key.
+ */
+garoalva_abandon_result garoalva_abandon(garoalva_session session);
+
+/*
+ * garoalva_version - return the version of the library.
+ *
+ * Returns a constant text. It equals GAROALVA_VERSION if this header is the library's own.
+ */
+const char *garoalva_version(void);
+
+/*
+ * garoalva_answer_text - say in words what an answer means.
+ * answer         the answer of any call
+ *
+ * Returns a constant text, with no full stop and no line end; "unknown answer" for any other number.
+ */
+const char *garoalva_answer_text(uint64_t answer);
+
+/*
+ * garoalva_error_text - say in words what an error is.
+ * error          the error that garoalva_check returned
+ * text           buffer for the text; may be null if size is 0
+ * size           bytes of the buffer; GAROALVA_ERROR_TEXT_SIZE is always enough
+ *
+ * Writes the text and a final 0, at most size bytes in all, as snprintf does: a text that is too long is cut. The text
+ * of type 0 is "no error", and that of a type above 3 "unknown error type".
+ *
+ * Returns the length of the whole text without its final 0. The text was cut if size is not greater.
+ */
+size_t garoalva_error_text(garoalva_error error, char *text, size_t size);
 
 #ifdef __cplusplus
 }
@@ -241,9 +430,9 @@ garoalva_abandoned garoalva_abandon(garoalva_session session);
 #define GAROALVA_ASSERT _Static_assert
 #endif
 
-/* The records as the library has them, byte for byte: how long each is, and where each of its fields begins. */
-#define GAROALVA_SIZE(record, size) GAROALVA_ASSERT(sizeof(garoalva_##record) == (size), #record)
-#define GAROALVA_AT(record, field, at) GAROALVA_ASSERT(offsetof(garoalva_##record, field) == (at), #record "." #field)
+/* The structs as the library has them: the size of each, and the offset of each field. */
+#define GAROALVA_SIZE(type, size) GAROALVA_ASSERT(sizeof(garoalva_##type) == (size), #type)
+#define GAROALVA_AT(type, field, at) GAROALVA_ASSERT(offsetof(garoalva_##type, field) == (at), #type "." #field)
 
 GAROALVA_SIZE(domain, 24);
 GAROALVA_AT(domain, kind, 0);
@@ -301,50 +490,47 @@ GAROALVA_AT(side, spare, 22);
 GAROALVA_SIZE(session, 456);
 GAROALVA_AT(session, seal, 0);
 GAROALVA_AT(session, key, 8);
-GAROALVA_AT(session, start, 368);
-GAROALVA_AT(session, length, 376);
+GAROALVA_AT(session, offset, 368);
+GAROALVA_AT(session, data_length, 376);
 GAROALVA_AT(session, input, 384);
 GAROALVA_AT(session, output, 408);
 GAROALVA_AT(session, error, 432);
 GAROALVA_AT(session, held, 448);
 
-GAROALVA_SIZE(configured, 368);
-GAROALVA_AT(configured, key, 0);
-GAROALVA_AT(configured, answer, 360);
+GAROALVA_SIZE(configure_result, 368);
+GAROALVA_AT(configure_result, key, 0);
+GAROALVA_AT(configure_result, answer, 360);
 
-GAROALVA_SIZE(transferred, 384);
-GAROALVA_AT(transferred, key, 0);
-GAROALVA_AT(transferred, answer, 360);
-GAROALVA_AT(transferred, taken, 368);
-GAROALVA_AT(transferred, written, 376);
+GAROALVA_SIZE(transfer_result, 384);
+GAROALVA_AT(transfer_result, key, 0);
+GAROALVA_AT(transfer_result, answer, 360);
+GAROALVA_AT(transfer_result, taken, 368);
+GAROALVA_AT(transfer_result, written, 376);
 
-GAROALVA_SIZE(checked, 400);
-GAROALVA_AT(checked, key, 0);
-GAROALVA_AT(checked, answer, 360);
-GAROALVA_AT(checked, type, 368);
-GAROALVA_AT(checked, actual, 376);
-GAROALVA_AT(checked, expected, 384);
-GAROALVA_AT(checked, offset, 392);
+GAROALVA_SIZE(check_result, 384);
+GAROALVA_AT(check_result, key, 0);
+GAROALVA_AT(check_result, answer, 360);
+GAROALVA_AT(check_result, error, 368);
 
-GAROALVA_SIZE(opened, 824);
-GAROALVA_AT(opened, key, 0);
-GAROALVA_AT(opened, session, 360);
-GAROALVA_AT(opened, answer, 816);
+GAROALVA_SIZE(open_result, 824);
+GAROALVA_AT(open_result, key, 0);
+GAROALVA_AT(open_result, session, 360);
+GAROALVA_AT(open_result, answer, 816);
 
-GAROALVA_SIZE(packed, 480);
-GAROALVA_AT(packed, session, 0);
-GAROALVA_AT(packed, answer, 456);
-GAROALVA_AT(packed, taken, 464);
-GAROALVA_AT(packed, written, 472);
+GAROALVA_SIZE(packet_result, 480);
+GAROALVA_AT(packet_result, session, 0);
+GAROALVA_AT(packet_result, answer, 456);
+GAROALVA_AT(packet_result, taken, 464);
+GAROALVA_AT(packet_result, written, 472);
 
-GAROALVA_SIZE(finished, 824);
-GAROALVA_AT(finished, key, 0);
-GAROALVA_AT(finished, session, 360);
-GAROALVA_AT(finished, answer, 816);
+GAROALVA_SIZE(finish_result, 824);
+GAROALVA_AT(finish_result, key, 0);
+GAROALVA_AT(finish_result, session, 360);
+GAROALVA_AT(finish_result, answer, 816);
 
-GAROALVA_SIZE(abandoned, 368);
-GAROALVA_AT(abandoned, key, 0);
-GAROALVA_AT(abandoned, answer, 360);
+GAROALVA_SIZE(abandon_result, 368);
+GAROALVA_AT(abandon_result, key, 0);
+GAROALVA_AT(abandon_result, answer, 360);
 
 #undef GAROALVA_AT
 #undef GAROALVA_SIZE

@@ -1,4 +1,4 @@
-//! Links libgaroalva.a, from the directory GAROALVA_LIB or from the repository's build/.
+//! Links libgaroalva.a from the directory GAROALVA_LIB, or from the repository's build/ if that is not set.
 
 use std::env;
 use std::path::PathBuf;

@@ -4,7 +4,7 @@ use std::ops::BitOr;
 
 use crate::{ffi, Domain, Layout};
 
-/// Bytes of a field, a bit for each: bit 7 stands for the first byte, bit 0 for the last.
+/// A set of bytes of a field: bit 7 stands for the first byte, bit 0 for the last.
 #[derive(Clone, Copy, Debug, PartialEq, Eq)]
 pub struct Mask(pub u8);
 
@@ -32,22 +32,22 @@ impl BitOr for Mask {
 /// Which bytes of an output field are copied from the input field. The others are generated.
 #[derive(Clone, Copy, Debug, PartialEq, Eq)]
 pub enum Copying {
-    /// Those on which the two domains agree; none if one of them has no signature.
+    /// The tags that the two domains make alike are copied; none is copied if a domain has no signature.
     Automatic,
-    /// These. Both domains must be T10-DIF with one block size.
+    /// These bytes are copied. Both domains must be T10-DIF, with one block size.
     Given(Mask),
 }
 
 /// The two domains, and what is checked and copied between them.
 #[derive(Clone, Copy, Debug, PartialEq, Eq)]
 pub struct Signature {
-    /// The stream in memory.
+    /// What the stream in memory holds.
     pub memory: Domain,
-    /// The stream on the wire.
+    /// What the stream on the wire holds.
     pub wire: Domain,
     /// The bytes of an input field that are checked.
     pub check: Mask,
-    /// The bytes of an input field that are copied.
+    /// The bytes of an input field that are copied to the output field.
     pub copy: Copying,
 }
 
@@ -73,7 +73,7 @@ impl Signature {
     fn raw(&self) -> ffi::Signature {
         let (attribute_flags, copy_mask) = match self.copy {
             Copying::Automatic => (0, 0),
-            Copying::Given(mask) => (1, mask.0),
+            Copying::Given(mask) => (ffi::COPY_MASK_GIVEN, mask.0),
         };
         ffi::Signature {
             memory: self.memory.raw(),

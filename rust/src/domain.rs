@@ -7,7 +7,7 @@ use crate::ffi;
 pub enum Domain {
     /// The stream holds the data alone.
     None,
-    /// The stream holds an eight-byte field behind each block.
+    /// The stream holds an eight-byte field after each block.
     T10Dif(T10Dif),
 }
 
@@ -16,30 +16,30 @@ pub enum Domain {
 pub struct T10Dif {
     /// Data bytes before each field: a multiple of 8 from 8 to 4,160.
     pub block_size: u32,
-    /// How the guard is worked out.
+    /// How the guard is computed.
     pub guard: Guard,
-    /// What the guard starts from.
+    /// The value that the guard starts from.
     pub seed: Seed,
     /// The application tag of every block.
     pub application_tag: u16,
     /// The reference tag of a transfer's first block.
     pub reference_tag: u32,
-    /// The reference tag counts up with each block, past 0xFFFFFFFF to 0.
+    /// Whether the reference tag counts up by 1 with each block; 0 follows 0xFFFFFFFF.
     pub remap: bool,
     /// When a block's guard is not checked.
     pub escape: Escape,
 }
 
-/// How a guard is worked out over a block's data.
+/// How a guard is computed over a block's data.
 #[derive(Clone, Copy, Debug, PartialEq, Eq)]
 pub enum Guard {
-    /// The CRC of polynomial 0x8BB7.
+    /// The CRC with polynomial 0x8BB7.
     Crc,
-    /// The ones' complement sum of 16-bit words, inverted.
+    /// The ones' complement sum of the data's 16-bit words, inverted.
     Checksum,
 }
 
-/// What a guard starts from.
+/// The value that a guard starts from.
 #[derive(Clone, Copy, Debug, PartialEq, Eq)]
 pub enum Seed {
     /// 0.
@@ -48,14 +48,14 @@ pub enum Seed {
     Ones,
 }
 
-/// When a block's guard is not checked. The other two fields still are.
+/// When a block's guard is not checked. Its application tag and reference tag are checked all the same.
 #[derive(Clone, Copy, Debug, PartialEq, Eq)]
 pub enum Escape {
-    /// It is always checked.
+    /// The guard is always checked.
     Never,
-    /// The application tag found is 0xFFFF.
+    /// The guard is not checked if the application tag found is 0xFFFF.
     Application,
-    /// The application tag found is 0xFFFF and the reference tag found is 0xFFFFFFFF.
+    /// The guard is not checked if the application tag found is 0xFFFF and the reference tag found is 0xFFFFFFFF.
     ApplicationAndReference,
 }
 
@@ -69,7 +69,7 @@ impl Domain {
     pub(crate) fn raw(self) -> ffi::Domain {
         match self {
             Domain::None => ffi::Domain {
-                kind: 0,
+                kind: ffi::KIND_NONE,
                 block_size: 0,
                 guard_type: 0,
                 reference_tag: 0,
@@ -78,23 +78,30 @@ impl Domain {
                 flags: 0,
             },
             Domain::T10Dif(signature) => ffi::Domain {
-                kind: 1,
+                kind: ffi::KIND_T10_DIF,
                 block_size: signature.block_size,
                 guard_type: signature.guard.number(),
                 reference_tag: signature.reference_tag,
                 seed: signature.seed.value(),
                 application_tag: signature.application_tag,
-                flags: u32::from(signature.remap) | signature.escape.flag(),
+                flags: signature.flags(),
             },
         }
+    }
+}
+
+impl T10Dif {
+    fn flags(&self) -> u32 {
+        let remap = if self.remap { ffi::REMAP } else { 0 };
+        remap | self.escape.flag()
     }
 }
 
 impl Guard {
     fn number(self) -> u32 {
         match self {
-            Guard::Crc => 0,
-            Guard::Checksum => 1,
+            Guard::Crc => ffi::GUARD_CRC,
+            Guard::Checksum => ffi::GUARD_CHECKSUM,
         }
     }
 }
@@ -112,8 +119,8 @@ impl Escape {
     fn flag(self) -> u32 {
         match self {
             Escape::Never => 0,
-            Escape::Application => 2,
-            Escape::ApplicationAndReference => 4,
+            Escape::Application => ffi::ESCAPE_APPLICATION,
+            Escape::ApplicationAndReference => ffi::ESCAPE_BOTH,
         }
     }
 }

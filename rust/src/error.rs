@@ -1,74 +1,82 @@
-//! What check tells.
+//! The error that a check returns.
 
 use std::error::Error;
 use std::fmt::{Display, Formatter};
 
 use crate::{ffi, Refusal};
 
-/// A part of the eight bytes behind a block.
+/// A part of the eight-byte field after a block.
 #[derive(Clone, Copy, Debug, PartialEq, Eq)]
-pub enum Field {
-    /// Bytes 0 and 1.
+pub enum Tag {
+    /// The guard: bytes 0 and 1.
     Guard,
-    /// Bytes 2 and 3.
-    ApplicationTag,
-    /// Bytes 4 to 7.
-    ReferenceTag,
+    /// The application tag: bytes 2 and 3.
+    Application,
+    /// The reference tag: bytes 4 to 7.
+    Reference,
 }
 
-/// The first bad block's first bad field.
+/// The first bad block, and the first bad tag of its field.
 #[derive(Clone, Copy, Debug, PartialEq, Eq)]
 pub struct BlockError {
-    /// The bad field.
-    pub field: Field,
-    /// What the input domain's rule gives for the block, unmasked.
+    /// The bad tag: the first in the order guard, application tag, reference tag.
+    pub tag: Tag,
+    /// The whole tag that the input domain's rule computes for the block.
     pub actual: u32,
-    /// What was found behind the block, unmasked.
+    /// The whole tag that was found in the field after the block.
     pub expected: u32,
     /// Where the block's data begins in the input stream.
     pub offset: u64,
 }
 
 impl BlockError {
-    pub(crate) fn of(checked: &ffi::Checked) -> Result<Option<Self>, Refusal> {
+    /// Returns the error of a check that was done, or `None` where there was none.
+    pub(crate) fn of(checked: &ffi::CheckResult) -> Result<Option<Self>, Refusal> {
         Refusal::unless_done(checked.answer)?;
-        let field = match checked.error_type {
-            0 => return Ok(None),
-            1 => Field::Guard,
-            2 => Field::ReferenceTag,
-            3 => Field::ApplicationTag,
-            other => return Err(Refusal::Unknown(other)),
+        let ffi::Error {
+            error_type,
+            actual,
+            expected,
+            offset,
+        } = checked.error;
+        let tag = match error_type {
+            ffi::ERROR_NONE => return Ok(None),
+            ffi::ERROR_GUARD => Tag::Guard,
+            ffi::ERROR_REFERENCE => Tag::Reference,
+            ffi::ERROR_APPLICATION => Tag::Application,
+            unknown => return Err(Refusal::Unknown(unknown.into())),
         };
         Ok(Some(BlockError {
-            field,
-            actual: checked.actual as u32, // no field is wider
-            expected: checked.expected as u32,
-            offset: checked.offset,
+            tag,
+            actual,
+            expected,
+            offset: offset.into(),
         }))
     }
 }
 
-impl Display for Field {
+impl Display for Tag {
     fn fmt(&self, f: &mut Formatter<'_>) -> std::fmt::Result {
         f.write_str(match self {
-            Field::Guard => "guard",
-            Field::ApplicationTag => "application tag",
-            Field::ReferenceTag => "reference tag",
+            Tag::Guard => "guard",
+            Tag::Application => "application tag",
+            Tag::Reference => "reference tag",
         })
     }
 }
 
+// The words are those of the C function garoalva_error_text, and a test compares them.
 impl Display for BlockError {
     fn fmt(&self, f: &mut Formatter<'_>) -> std::fmt::Result {
-        let digits = match self.field {
-            Field::Guard | Field::ApplicationTag => 4,
-            Field::ReferenceTag => 8,
+        let digits = match self.tag {
+            Tag::Guard | Tag::Application => 4,
+            Tag::Reference => 8,
         };
         write!(
             f,
             "bad {} in the block at byte {} of the input stream: \
              its field says 0x{:0digits$X}, the rule gives 0x{:0digits$X}",
-            self.field, self.offset, self.expected, self.actual
+            self.tag, self.offset, self.expected, self.actual
         )
     }
 }

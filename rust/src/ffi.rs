@@ -1,8 +1,27 @@
-//! The C interface, `include/garoalva.h`: its records, and its calls as safe functions on slices.
+//! The C API, `include/garoalva.h`: its constants, its structs, and its calls as safe functions on slices.
 
 use std::mem::{offset_of, size_of};
 
 pub const ENTRIES: usize = 16;
+
+pub const KIND_NONE: u32 = 0;
+pub const KIND_T10_DIF: u32 = 1;
+
+pub const GUARD_CRC: u32 = 0;
+pub const GUARD_CHECKSUM: u32 = 1;
+
+pub const REMAP: u32 = 1;
+pub const ESCAPE_APPLICATION: u32 = 2;
+pub const ESCAPE_BOTH: u32 = 4;
+
+pub const COPY_MASK_GIVEN: u32 = 1;
+
+pub const ERROR_NONE: u32 = 0;
+pub const ERROR_GUARD: u32 = 1;
+pub const ERROR_REFERENCE: u32 = 2;
+pub const ERROR_APPLICATION: u32 = 3;
+
+pub const ANSWER_DONE: u64 = 0;
 
 #[derive(Clone, Copy)]
 #[repr(C)]
@@ -53,10 +72,10 @@ pub struct Configuration {
 #[derive(Clone, Copy)]
 #[repr(C)]
 pub struct Error {
-    kind: u32,
-    actual: u32,
-    expected: u32,
-    offset: u32,
+    pub error_type: u32,
+    pub actual: u32,
+    pub expected: u32,
+    pub offset: u32,
 }
 
 #[derive(Clone, Copy)]
@@ -86,8 +105,8 @@ pub struct Side {
 pub struct Session {
     pub seal: u64,
     key: Key,
-    start: u64,
-    length: u64,
+    offset: u64,
+    data_length: u64,
     input: Side,
     output: Side,
     error: Error,
@@ -95,13 +114,13 @@ pub struct Session {
 }
 
 #[repr(C)]
-pub struct Configured {
+pub struct ConfigureResult {
     pub key: Key,
     pub answer: u64,
 }
 
 #[repr(C)]
-pub struct Transferred {
+pub struct TransferResult {
     pub key: Key,
     pub answer: u64,
     pub taken: u64,
@@ -109,24 +128,21 @@ pub struct Transferred {
 }
 
 #[repr(C)]
-pub struct Checked {
+pub struct CheckResult {
     pub key: Key,
     pub answer: u64,
-    pub error_type: u64,
-    pub actual: u64,
-    pub expected: u64,
-    pub offset: u64,
+    pub error: Error,
 }
 
 #[repr(C)]
-pub struct Opened {
+pub struct OpenResult {
     pub key: Key,
     pub session: Session,
     pub answer: u64,
 }
 
 #[repr(C)]
-pub struct Packed {
+pub struct PacketResult {
     pub session: Session,
     pub answer: u64,
     pub taken: u64,
@@ -134,67 +150,67 @@ pub struct Packed {
 }
 
 #[repr(C)]
-pub struct Finished {
+pub struct FinishResult {
     pub key: Key,
     pub session: Session,
     pub answer: u64,
 }
 
 #[repr(C)]
-pub struct Abandoned {
+pub struct AbandonResult {
     pub key: Key,
     pub answer: u64,
 }
 
-/// Asserts each record's size and where each of its fields begins. No field may be left out, and none so narrow that
-/// padding follows it.
-macro_rules! assert_places {
-    ($($record:ident $size:literal: $($field:ident $at:literal),*;)*) => {
+/// Asserts each struct's size and the offset of each of its fields. No field may be left out, and none may be so narrow
+/// that padding follows it.
+macro_rules! assert_layouts {
+    ($($name:ident $size:literal: $($field:ident $at:literal),*;)*) => {
         $(const _: () = {
-            let _ = |$record { $($field: _),* }: $record| ();
-            assert!(size_of::<$record>() == $size);
-            $(assert!(offset_of!($record, $field) == $at);)*
-            assert!(0 $(+ field_size(|record: &$record| &record.$field))* == $size);
+            let _ = |$name { $($field: _),* }: $name| ();
+            assert!(size_of::<$name>() == $size);
+            $(assert!(offset_of!($name, $field) == $at);)*
+            assert!(0 $(+ field_size(|of: &$name| &of.$field))* == $size);
         };)*
     };
 }
 
-const fn field_size<R, F>(_field: fn(&R) -> &F) -> usize {
+const fn field_size<S, F>(_field: fn(&S) -> &F) -> usize {
     size_of::<F>()
 }
 
-// The same numbers as the header asserts: nothing else holds the two to each other.
-assert_places! {
+// The header asserts the same numbers. Nothing else compares its structs with these.
+assert_layouts! {
     Domain 24: kind 0, block_size 4, guard_type 8, reference_tag 12, seed 16, application_tag 18, flags 20;
     Entry 16: start 0, count 8, skip 12;
     Layout 264: entries 0, used 256, repeat 260;
     Signature 56: memory 0, wire 24, attribute_flags 48, check_mask 52, copy_mask 53, spare 54;
     Configuration 320: layout 0, signature 264;
-    Error 16: kind 0, actual 4, expected 8, offset 12;
+    Error 16: error_type 0, actual 4, expected 8, offset 12;
     Key 360: seal 0, memory_length 8, layout 16, signature 280, configured 336, error 340, spare 356;
     Side 24: index 0, at 8, odd 16, guard 20, spare 22;
-    Session 456: seal 0, key 8, start 368, length 376, input 384, output 408, error 432, held 448;
-    Configured 368: key 0, answer 360;
-    Transferred 384: key 0, answer 360, taken 368, written 376;
-    Checked 400: key 0, answer 360, error_type 368, actual 376, expected 384, offset 392;
-    Opened 824: key 0, session 360, answer 816;
-    Packed 480: session 0, answer 456, taken 464, written 472;
-    Finished 824: key 0, session 360, answer 816;
-    Abandoned 368: key 0, answer 360;
+    Session 456: seal 0, key 8, offset 368, data_length 376, input 384, output 408, error 432, held 448;
+    ConfigureResult 368: key 0, answer 360;
+    TransferResult 384: key 0, answer 360, taken 368, written 376;
+    CheckResult 384: key 0, answer 360, error 368;
+    OpenResult 824: key 0, session 360, answer 816;
+    PacketResult 480: session 0, answer 456, taken 464, written 472;
+    FinishResult 824: key 0, session 360, answer 816;
+    AbandonResult 368: key 0, answer 360;
 }
 
-// Calls that are lent no memory are safe: they answer for every record.
+// Calls that are lent no bytes are safe: they are defined for every struct.
 unsafe extern "C" {
     safe fn garoalva_fresh() -> Key;
-    safe fn garoalva_check(key: Key) -> Checked;
-    safe fn garoalva_finish(session: Session) -> Finished;
-    safe fn garoalva_abandon(session: Session) -> Abandoned;
+    safe fn garoalva_check(key: Key) -> CheckResult;
+    safe fn garoalva_finish(session: Session) -> FinishResult;
+    safe fn garoalva_abandon(session: Session) -> AbandonResult;
     fn garoalva_configure(
         key: Key,
         memory: *const u8,
         memory_length: usize,
         configuration: Configuration,
-    ) -> Configured;
+    ) -> ConfigureResult;
     fn garoalva_send(
         key: Key,
         memory: *const u8,
@@ -203,7 +219,7 @@ unsafe extern "C" {
         wire_length: usize,
         offset: u64,
         data_length: u64,
-    ) -> Transferred;
+    ) -> TransferResult;
     fn garoalva_receive(
         key: Key,
         memory: *mut u8,
@@ -212,41 +228,41 @@ unsafe extern "C" {
         wire_length: usize,
         offset: u64,
         data_length: u64,
-    ) -> Transferred;
-    fn garoalva_open(key: Key, memory: *const u8, memory_length: usize, offset: u64, data_length: u64) -> Opened;
+    ) -> TransferResult;
+    fn garoalva_open(key: Key, memory: *const u8, memory_length: usize, offset: u64, data_length: u64) -> OpenResult;
     fn garoalva_packet(
         session: Session,
         memory: *mut u8,
         memory_length: usize,
         bytes: *const u8,
-        length: usize,
-    ) -> Packed;
+        bytes_length: usize,
+    ) -> PacketResult;
 }
 
 pub fn fresh() -> Key {
     garoalva_fresh()
 }
 
-pub fn check(key: Key) -> Checked {
+pub fn check(key: Key) -> CheckResult {
     garoalva_check(key)
 }
 
-pub fn finish(session: Session) -> Finished {
+pub fn finish(session: Session) -> FinishResult {
     garoalva_finish(session)
 }
 
-pub fn abandon(session: Session) -> Abandoned {
+pub fn abandon(session: Session) -> AbandonResult {
     garoalva_abandon(session)
 }
 
-// SAFETY, for each call below: a slice's pointer is not null and holds its length in bytes, also where that is 0; a
-// `&mut` slice overlaps no other; and the library keeps no pointer after it returns.
+// SAFETY, for each call below: a slice's pointer points to as many bytes as its length says, a `&mut` slice overlaps no
+// other slice, nobody else touches a borrowed slice, and the library keeps no pointer after it returns.
 
-pub fn configure(key: Key, memory: &[u8], configuration: Configuration) -> Configured {
+pub fn configure(key: Key, memory: &[u8], configuration: Configuration) -> ConfigureResult {
     unsafe { garoalva_configure(key, memory.as_ptr(), memory.len(), configuration) }
 }
 
-pub fn send(key: Key, memory: &[u8], wire: &mut [u8], offset: u64, data_length: u64) -> Transferred {
+pub fn send(key: Key, memory: &[u8], wire: &mut [u8], offset: u64, data_length: u64) -> TransferResult {
     unsafe {
         garoalva_send(
             key,
@@ -260,7 +276,7 @@ pub fn send(key: Key, memory: &[u8], wire: &mut [u8], offset: u64, data_length: 
     }
 }
 
-pub fn receive(key: Key, memory: &mut [u8], wire: &[u8], offset: u64, data_length: u64) -> Transferred {
+pub fn receive(key: Key, memory: &mut [u8], wire: &[u8], offset: u64, data_length: u64) -> TransferResult {
     unsafe {
         garoalva_receive(
             key,
@@ -274,10 +290,47 @@ pub fn receive(key: Key, memory: &mut [u8], wire: &[u8], offset: u64, data_lengt
     }
 }
 
-pub fn open(key: Key, memory: &[u8], offset: u64, data_length: u64) -> Opened {
+pub fn open(key: Key, memory: &[u8], offset: u64, data_length: u64) -> OpenResult {
     unsafe { garoalva_open(key, memory.as_ptr(), memory.len(), offset, data_length) }
 }
 
-pub fn packet(session: Session, memory: &mut [u8], bytes: &[u8]) -> Packed {
+pub fn packet(session: Session, memory: &mut [u8], bytes: &[u8]) -> PacketResult {
     unsafe { garoalva_packet(session, memory.as_mut_ptr(), memory.len(), bytes.as_ptr(), bytes.len()) }
+}
+
+/// The library's version and texts, which the tests compare with this crate's own.
+#[cfg(test)]
+pub mod texts {
+    use std::ffi::{c_char, CStr};
+
+    use super::Error;
+
+    unsafe extern "C" {
+        safe fn garoalva_version() -> *const c_char;
+        safe fn garoalva_answer_text(answer: u64) -> *const c_char;
+        fn garoalva_error_text(error: Error, text: *mut c_char, size: usize) -> usize;
+    }
+
+    pub fn version() -> String {
+        // SAFETY: the library returns a constant text.
+        text_at(unsafe { CStr::from_ptr(garoalva_version()) })
+    }
+
+    pub fn answer_text(answer: u64) -> String {
+        // SAFETY: the library returns a constant text.
+        text_at(unsafe { CStr::from_ptr(garoalva_answer_text(answer)) })
+    }
+
+    pub fn error_text(error: Error) -> String {
+        let mut text = [0; 128];
+        // SAFETY: the array has as many bytes as it says.
+        let length = unsafe { garoalva_error_text(error, text.as_mut_ptr().cast(), text.len()) };
+        let text = CStr::from_bytes_until_nul(&text).expect("a text ends in 0");
+        assert_eq!(text.count_bytes(), length);
+        text_at(text)
+    }
+
+    fn text_at(text: &CStr) -> String {
+        text.to_str().expect("texts are ASCII").to_string()
+    }
 }

@@ -5,34 +5,34 @@ use std::fmt::{Debug, Display, Formatter};
 
 use crate::{ffi, BlockError, Configuration, LayoutOffset, Refusal, Session};
 
-/// How far a transfer went, in bytes of its streams, fields included.
+/// How many bytes a transfer has moved, fields included.
 #[derive(Clone, Copy, Debug, PartialEq, Eq)]
-pub struct Transferred {
-    /// Bytes of the input stream.
+pub struct Totals {
+    /// Bytes taken from the input stream.
     pub taken: u64,
-    /// Bytes of the output stream.
+    /// Bytes written to the output stream.
     pub written: u64,
 }
 
 /// A configuration over one lent memory, and the first error found since the last check.
 ///
-/// It can't be cloned: each error would be told twice, and a check of one key would leave the other's slot filled. For
-/// a second key with the same configuration, keep the [`Configuration`] and configure a new one.
+/// A key can't be cloned: both keys would report the same error, and a check of one would leave it in the other. For a
+/// second key with the same configuration, keep the [`Configuration`] and configure a new key with it.
 pub struct Key {
     pub(crate) raw: ffi::Key,
 }
 
-/// An open that was refused, and the key as it was.
+/// An open that was refused.
 #[derive(Debug)]
 pub struct OpenRefused {
-    /// The key given to open.
+    /// The key that was passed to open, unchanged.
     pub key: Key,
-    /// Why it was refused.
+    /// Why open was refused.
     pub refusal: Refusal,
 }
 
 impl Key {
-    /// A key that was never configured.
+    /// Makes a key, which is not configured and holds no error.
     pub fn new() -> Self {
         Key::from_raw(ffi::fresh())
     }
@@ -41,48 +41,49 @@ impl Key {
         Key { raw }
     }
 
-    /// Gives the key a configuration over a memory, of which the length alone is looked at. Where it is refused, the
-    /// old configuration stays. A recorded error stays either way.
+    /// Sets the key's configuration over a memory, of which only the length counts. If this is refused, the old
+    /// configuration stays. A recorded error stays in either case.
     pub fn configure(&mut self, memory: &[u8], configuration: &Configuration) -> Result<(), Refusal> {
         let configured = ffi::configure(self.raw, memory, configuration.raw());
         self.raw = configured.key;
         Refusal::unless_done(configured.answer)
     }
 
-    /// Memory to wire: `length` data bytes, whose memory stream begins at `offset`. Wire bytes past the stream stay as
-    /// they are.
+    /// Moves `data_length` bytes of data from memory to the wire. The memory stream begins at `offset`. Wire bytes after
+    /// the wire stream stay as they are.
     pub fn send(
         &mut self,
         memory: &[u8],
         wire: &mut [u8],
         offset: LayoutOffset,
-        length: u64,
-    ) -> Result<Transferred, Refusal> {
-        self.transferred(ffi::send(self.raw, memory, wire, offset.0, length))
+        data_length: u64,
+    ) -> Result<Totals, Refusal> {
+        self.transferred(ffi::send(self.raw, memory, wire, offset.0, data_length))
     }
 
-    /// Wire to memory: `length` data bytes, whose memory stream begins at `offset`.
+    /// Moves `data_length` bytes of data from the wire to memory. The memory stream begins at `offset`.
     pub fn receive(
         &mut self,
         memory: &mut [u8],
         wire: &[u8],
         offset: LayoutOffset,
-        length: u64,
-    ) -> Result<Transferred, Refusal> {
-        self.transferred(ffi::receive(self.raw, memory, wire, offset.0, length))
+        data_length: u64,
+    ) -> Result<Totals, Refusal> {
+        self.transferred(ffi::receive(self.raw, memory, wire, offset.0, data_length))
     }
 
-    fn transferred(&mut self, transferred: ffi::Transferred) -> Result<Transferred, Refusal> {
+    /// Keeps the key that a transfer returned, and returns the totals if the transfer was done.
+    fn transferred(&mut self, transferred: ffi::TransferResult) -> Result<Totals, Refusal> {
         self.raw = transferred.key;
         Refusal::unless_done(transferred.answer)?;
-        Ok(Transferred {
+        Ok(Totals {
             taken: transferred.taken,
             written: transferred.written,
         })
     }
 
-    /// The first error since the last check, which is then forgotten. Only a library of another version than this
-    /// crate's refuses to tell it.
+    /// Returns the first error since the last check, and removes it from the key. Only a library of another version
+    /// than this crate's refuses this.
     pub fn check(&mut self) -> Result<Option<BlockError>, Refusal> {
         let checked = ffi::check(self.raw);
         let error = BlockError::of(&checked)?;
@@ -90,9 +91,10 @@ impl Key {
         Ok(error)
     }
 
-    /// Begins a receive by packets of `length` data bytes, whose memory stream begins at `offset`.
-    pub fn open(self, memory: &[u8], offset: LayoutOffset, length: u64) -> Result<Session, OpenRefused> {
-        let opened = ffi::open(self.raw, memory, offset.0, length);
+    /// Begins a receive by packets of `data_length` bytes of data. The memory stream begins at `offset`. Of the memory
+    /// only the length counts here.
+    pub fn open(self, memory: &[u8], offset: LayoutOffset, data_length: u64) -> Result<Session, OpenRefused> {
+        let opened = ffi::open(self.raw, memory, offset.0, data_length);
         match Refusal::unless_done(opened.answer) {
             Ok(()) => Ok(Session::from_raw(opened.session)),
             Err(refusal) => Err(OpenRefused {

@@ -2,17 +2,17 @@
 
 use crate::ffi;
 
-/// A place in the layout: how many of its bytes come before.
+/// An offset in the layout: the number of layout bytes before it.
 #[derive(Clone, Copy, Debug, PartialEq, Eq, PartialOrd, Ord)]
 pub struct LayoutOffset(pub u64);
 
-/// A place in the lent memory. A kind of its own, so that it can't stand for a [`LayoutOffset`].
+/// An offset in the lent memory. It is a type of its own, so that it can't be passed for a [`LayoutOffset`].
 #[derive(Clone, Copy, Debug, PartialEq, Eq, PartialOrd, Ord)]
 pub struct MemoryOffset(pub u64);
 
-/// A piece of memory, and how far its repeats lie apart.
+/// A piece of memory, and where its repeats lie.
 ///
-/// Repeat r covers `count` bytes from `start + r * (count + skip)`.
+/// Repeat r covers `count` bytes from `start + r * (count + skip)` on.
 #[derive(Clone, Copy, Debug, PartialEq, Eq)]
 pub struct Entry {
     /// Where the first repeat begins.
@@ -23,8 +23,7 @@ pub struct Entry {
     pub skip: u32,
 }
 
-/// The order in which pieces of memory make up the memory stream: every entry once, then every entry's next repeat, and
-/// so on.
+/// Where the bytes of the memory stream lie: in repeat 0 of each entry, in order, then in repeat 1 of each, and so on.
 #[derive(Clone, Copy, Debug, PartialEq, Eq)]
 pub struct Layout {
     entries: [Entry; ffi::ENTRIES],
@@ -33,7 +32,7 @@ pub struct Layout {
 }
 
 impl Layout {
-    /// A layout of 1 to 16 entries and at most 1,024 pieces, entries times repeats. Configure refuses any other.
+    /// Makes a layout of 1 to 16 entries and at most 1,024 pieces (entries times repeat). Configure refuses any other.
     pub fn new(entries: &[Entry], repeat: u32) -> Self {
         let unused = Entry {
             start: MemoryOffset(0),
@@ -44,7 +43,7 @@ impl Layout {
         for (place, entry) in room.iter_mut().zip(entries) {
             *place = *entry;
         }
-        // A count past the room is kept, so that configure sees it.
+        // If there are too many entries their number is kept, so that configure refuses the layout.
         let used = u32::try_from(entries.len()).unwrap_or(u32::MAX);
         Layout {
             entries: room,
@@ -53,12 +52,12 @@ impl Layout {
         }
     }
 
-    /// The entries, each once.
+    /// Makes a layout of these entries, each once.
     pub fn list(entries: &[Entry]) -> Self {
         Layout::new(entries, 1)
     }
 
-    /// The first `count` bytes of memory as they lie.
+    /// Makes a layout of the first `count` bytes of memory.
     pub fn contiguous(count: u32) -> Self {
         let start = MemoryOffset(0);
         Layout::list(&[Entry { start, count, skip: 0 }])

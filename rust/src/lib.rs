@@ -1,19 +1,21 @@
-//! Signed block transfers: moves blocks between scattered memory and the wire, and adds, checks, strips or copies the
-//! eight T10-DIF bytes behind each block, as a network card's signature offload would.
+//! A network card's T10-DIF signature offload, in software.
 //!
-//! The work is done by Garoalva's proved library, which this crate links; here are types that make its calls safe. A
-//! [`Key`] holds a configuration over one lent memory and the first error found. [`Key::send`] and [`Key::receive`] do
-//! a whole transfer in one call. [`Key::open`] turns the key into a [`Session`], which receives by packets that may end
-//! anywhere, also inside a block or a field, and gives the key back at the end.
+//! The library moves blocks of data between scattered memory and a wire buffer. On the way it adds, checks, strips or
+//! copies the eight-byte protection field after each block: guard, application tag and reference tag.
 //!
-//! Every call answers for every input. A [`Refusal`] says what was wrong, and then nothing has changed: not the key or
-//! session, not a byte of what was lent. A bad block is no refusal: the transfer goes on, and [`Key::check`] tells the
-//! first one.
+//! The work is done by Garoalva's library, which is proved and has a C API. This crate links it, and its types make the
+//! calls safe. A [`Key`] holds a configuration over one memory, and the first error found. [`Key::send`] and
+//! [`Key::receive`] do a whole transfer in one call. [`Key::open`] turns the key into a [`Session`], which receives by
+//! packets that may end anywhere, also inside a block or a field, and returns the key at the end.
+//!
+//! Every call is defined for all arguments. A [`Refusal`] says what was wrong, and a refused call has changed nothing:
+//! not the key or session, and no byte of memory or wire. A bad block is no refusal: the transfer goes on, and
+//! [`Key::check`] returns the first error.
 //!
 //! # A receive by packets
 //!
-//! Two blocks of eight bytes go over the wire with their fields, one bit of the second is spoilt on the way, and
-//! packets of 9 bytes bring them back into memory, where each block has a place of its own.
+//! Two blocks of eight bytes go over the wire with their fields. One bit of the second is damaged on the way. Packets of
+//! 9 bytes bring the blocks back into memory, each to a place of its own.
 //!
 //! ```
 //! use garoalva::*;
@@ -55,9 +57,9 @@
 //! }
 //! let mut key = session.finish()?;
 //!
-//! assert_eq!(memory[47], 2); // the data came as it was on the wire,
-//! let error = key.check()?.ok_or("the damage was missed")?; // and check tells what was wrong with it
-//! assert_eq!((error.field, error.offset), (Field::Guard, 16));
+//! assert_eq!(memory[47], 2); // memory holds the data as it was on the wire,
+//! let error = key.check()?.ok_or("the damage was missed")?; // and check returns what was wrong with it
+//! assert_eq!((error.tag, error.offset), (Tag::Guard, 16));
 //! assert_eq!(
 //!     error.to_string(),
 //!     "bad guard in the block at byte 16 of the input stream: its field says 0x0000, the rule gives 0x9CD9"
@@ -68,7 +70,7 @@
 //! ```
 
 #![deny(missing_docs, unsafe_code)]
-#![allow(clippy::result_large_err)] // a box would put an allocation in the way of each transfer
+#![allow(clippy::result_large_err)] // a boxed error would cost an allocation for each refusal
 
 mod configuration;
 mod domain;
@@ -84,8 +86,8 @@ mod tests;
 
 pub use configuration::{Configuration, Copying, Mask, Signature};
 pub use domain::{Domain, Escape, Guard, Seed, T10Dif};
-pub use error::{BlockError, Field};
-pub use key::{Key, OpenRefused, Transferred};
+pub use error::{BlockError, Tag};
+pub use key::{Key, OpenRefused, Totals};
 pub use layout::{Entry, Layout, LayoutOffset, MemoryOffset};
 pub use refusal::Refusal;
 pub use session::{EndRefused, Session};

@@ -3,27 +3,29 @@
 use std::error::Error;
 use std::fmt::{Display, Formatter};
 
-/// Why a call was refused. Nothing has changed then.
+use crate::ffi;
+
+/// Why a call was refused. A refused call has changed nothing.
 #[derive(Clone, Copy, Debug, PartialEq, Eq)]
 #[non_exhaustive]
 pub enum Refusal {
-    /// A block size is not a multiple of 8 from 8 to 4,160.
+    /// A domain is not valid. In this crate only its block size can be wrong: it is not a multiple of 8 from 8 to 4,160.
     BadDomain,
     /// A domain with an escape has the application tag 0xFFFF.
     EscapeTag,
-    /// A copy mask is given, but not two signatures of one block size.
+    /// A copy mask is given, but the two sides are not both signed with one block size.
     CopyMask,
-    /// The two signatures have unlike block sizes.
+    /// The two sides are signed with different block sizes.
     BlockSizes,
-    /// The layout's entries are not 1 to 16, its repeat or a count is 0, or it has more than 1,024 pieces.
+    /// The layout has not 1 to 16 entries, its repeat or a count is 0, or it has more than 1,024 pieces.
     MalformedLayout,
     /// A piece of the layout ends beyond the memory.
     OutsideMemory,
     /// Two pieces of the layout share a byte.
     Overlap,
-    /// The memory has more than 16,777,216 bytes, or another length than it was configured with.
+    /// The memory has more than 16,777,216 bytes, or not as many as the key was configured with.
     MemoryLength,
-    /// The length is not a multiple of a domain's block size.
+    /// The data length is not a multiple of the block size of a signed side.
     PartialBlock,
     /// The memory stream ends beyond the layout.
     PastLayout,
@@ -31,20 +33,22 @@ pub enum Refusal {
     ShortWire,
     /// The packet is longer than the wire bytes still to come.
     LongPacket,
-    /// Not all wire bytes have come.
+    /// Not all wire bytes have arrived.
     BytesToCome,
     /// The key was never configured.
     NotConfigured,
-    /// The key is not one of the linked library's version. This crate's keys are.
+    /// The key is not one of the linked library's version. All keys of this crate are, if the library is the crate's.
     NotAKey,
-    /// The session is not one of the linked library's version. This crate's sessions are.
+    /// The session is not one of the linked library's version. All sessions of this crate are, if the library is the
+    /// crate's.
     NotASession,
-    /// An answer, or an error's type from check, that this crate has no name for: the linked library is of another
+    /// The library returned an answer, or check an error type, that this crate does not know: the library is of another
     /// version.
     Unknown(u64),
 }
 
-const NAMED: [Refusal; 16] = [
+/// Every refusal that has a name.
+pub(crate) const NAMED: [Refusal; 16] = [
     Refusal::BadDomain,
     Refusal::EscapeTag,
     Refusal::CopyMask,
@@ -64,7 +68,7 @@ const NAMED: [Refusal; 16] = [
 ];
 
 impl Refusal {
-    /// The library's number for it.
+    /// Returns the answer of the C API that stands for this refusal.
     pub fn number(self) -> u64 {
         match self {
             Refusal::BadDomain => 1,
@@ -87,9 +91,9 @@ impl Refusal {
         }
     }
 
-    /// The refusal that an answer stands for, if it is not that of a call that was done.
+    /// Returns the refusal that an answer stands for, unless the call was done.
     pub(crate) fn unless_done(answer: u64) -> Result<(), Refusal> {
-        if answer == 0 {
+        if answer == ffi::ANSWER_DONE {
             return Ok(());
         }
         let named = NAMED.into_iter().find(|refusal| refusal.number() == answer);
@@ -97,29 +101,37 @@ impl Refusal {
     }
 }
 
+// The words are those of the C function garoalva_answer_text, and a test compares them.
 impl Display for Refusal {
     fn fmt(&self, f: &mut Formatter<'_>) -> std::fmt::Result {
         f.write_str(match self {
-            Refusal::BadDomain => "a block size is not a multiple of 8 from 8 to 4,160",
-            Refusal::EscapeTag => {
-                "a domain with an escape has the application tag 0xFFFF, which would switch its check off"
+            Refusal::BadDomain => {
+                "a domain's kind, block size, guard type, seed or flags, or the attribute flags, are not valid"
             }
-            Refusal::CopyMask => "a copy mask is given, but not two signatures of one block size",
-            Refusal::BlockSizes => "the two signatures have unlike block sizes",
-            Refusal::MalformedLayout => "the layout has no or too many entries or pieces, or an empty one",
+            Refusal::EscapeTag => {
+                "a domain with an escape flag has the application tag 0xFFFF, so that its guards would go unchecked"
+            }
+            Refusal::CopyMask => "a copy mask is given, but the two sides are not both signed with one block size",
+            Refusal::BlockSizes => "the two sides are signed with different block sizes",
+            Refusal::MalformedLayout => {
+                "the layout has no entries or too many, a repeat or count of 0, or too many pieces"
+            }
             Refusal::OutsideMemory => "a piece of the layout ends beyond the memory",
             Refusal::Overlap => "two pieces of the layout share a byte",
-            Refusal::MemoryLength => "the memory is too long, or not of the length that was configured",
-            Refusal::PartialBlock => "the length is not a multiple of the block size",
-            Refusal::PastLayout => "the transfer ends beyond the layout",
+            Refusal::MemoryLength => "the memory is longer than the limit, or not of the configured length",
+            Refusal::PartialBlock => "the data length is not a multiple of the block size",
+            Refusal::PastLayout => "the memory stream ends beyond the layout",
             Refusal::ShortWire => "the wire buffer is shorter than the wire stream",
             Refusal::LongPacket => "the packet is longer than the wire bytes still to come",
-            Refusal::BytesToCome => "not all wire bytes have come",
+            Refusal::BytesToCome => "not all wire bytes have arrived",
             Refusal::NotConfigured => "the key was never configured",
-            Refusal::NotAKey => "the key is not one of the linked library's version",
-            Refusal::NotASession => "the session is not one of the linked library's version",
+            Refusal::NotAKey => "the struct is not a key of the library's version",
+            Refusal::NotASession => "the struct is not a session of the library's version, or the session has ended",
             Refusal::Unknown(number) => {
-                return write!(f, "the linked library answered {number}, which has no name here")
+                return write!(
+                    f,
+                    "the linked library returned {number}, which this crate does not know"
+                )
             }
         })
     }

@@ -3,12 +3,15 @@
 use std::error::Error;
 use std::fmt::{Debug, Display, Formatter};
 
-use crate::{ffi, Key, Refusal, Transferred};
+use crate::{ffi, Key, Refusal, Totals};
 
-/// A receive by packets under way. [`Key::open`] makes it, [`finish`](Session::finish) and
-/// [`abandon`](Session::abandon) consume it and give the key back.
+/// A receive by packets that is in progress. [`Key::open`] makes it; [`finish`](Session::finish) and
+/// [`abandon`](Session::abandon) consume it and return the key.
 ///
-/// It can't be cloned: a copy would go on from where memory no longer stands. And one that has ended can't be used:
+/// Pass the same memory with every packet, and let nobody else write it between packets. Otherwise memory need not hold
+/// at the end what one receive would have left there.
+///
+/// A session can't be cloned: both copies would write the same memory. One that has ended can't be used:
 ///
 /// ```compile_fail,E0382
 /// fn twice(session: garoalva::Session) {
@@ -28,12 +31,12 @@ pub struct Session {
     pub(crate) raw: ffi::Session,
 }
 
-/// A finish or abandon that was refused, and the session as it was.
+/// A finish or abandon that was refused.
 #[derive(Debug)]
 pub struct EndRefused {
-    /// The session given to finish or abandon.
+    /// The session, unchanged.
     pub session: Session,
-    /// Why it was refused.
+    /// Why the session did not end.
     pub refusal: Refusal,
 }
 
@@ -42,32 +45,32 @@ impl Session {
         Session { raw }
     }
 
-    /// Takes the wire stream's next bytes, which may begin and end anywhere, and answers the totals since open. Lend it
-    /// the memory of the transfer: data bytes are written to it at once.
-    pub fn packet(&mut self, memory: &mut [u8], bytes: &[u8]) -> Result<Transferred, Refusal> {
-        let packed = ffi::packet(self.raw, memory, bytes);
-        self.raw = packed.session;
-        Refusal::unless_done(packed.answer)?;
-        Ok(Transferred {
-            taken: packed.taken,
-            written: packed.written,
+    /// Receives the next bytes of the wire stream, which may begin and end anywhere, and returns the totals since open.
+    /// Pass the same memory with every packet: data is written to it at once.
+    pub fn packet(&mut self, memory: &mut [u8], bytes: &[u8]) -> Result<Totals, Refusal> {
+        let packet = ffi::packet(self.raw, memory, bytes);
+        self.raw = packet.session;
+        Refusal::unless_done(packet.answer)?;
+        Ok(Totals {
+            taken: packet.taken,
+            written: packet.written,
         })
     }
 
-    /// Ends the transfer once all wire bytes have come. The key has the first error found: see [`Key::check`].
+    /// Ends the receive, once all wire bytes have arrived. The key holds the first error found: see [`Key::check`].
     pub fn finish(self) -> Result<Key, EndRefused> {
         let finished = ffi::finish(self.raw);
         self.ended(finished.answer, finished.key)
     }
 
-    /// Ends the transfer where it stands. What has come stays in memory, and the key has the first error of the whole
-    /// blocks among it. Only a library of another version than this crate's refuses that.
+    /// Ends the receive, whatever has arrived. That stays in memory, and the key holds the first error of the blocks that
+    /// arrived whole. Only a library of another version than this crate's refuses this.
     pub fn abandon(self) -> Result<Key, EndRefused> {
         let abandoned = ffi::abandon(self.raw);
         self.ended(abandoned.answer, abandoned.key)
     }
 
-    /// The key given back, or this session where the end was refused.
+    /// Returns the key if the session has ended, else this session with the refusal.
     fn ended(self, answer: u64, key: ffi::Key) -> Result<Key, EndRefused> {
         match Refusal::unless_done(answer) {
             Ok(()) => Ok(Key::from_raw(key)),

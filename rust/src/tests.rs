@@ -1,5 +1,7 @@
-//! What only a library of another version would answer. Outside the crate nobody can make such a record.
+//! Tests that need the crate's inside: structs of another version, which nobody else can make, and the library's own
+//! texts and version.
 
+use crate::ffi::texts;
 use crate::*;
 
 const START: LayoutOffset = LayoutOffset(0);
@@ -36,12 +38,17 @@ fn has_error(mut key: Key) -> bool {
     key.check().unwrap().is_some()
 }
 
+fn checked(error: ffi::Error) -> ffi::CheckResult {
+    let checked = ffi::check(Key::new().raw);
+    ffi::CheckResult { error, ..checked }
+}
+
 #[test]
 fn a_key_of_another_version_is_refused_and_keeps_its_error() {
     let mut memory = [0; 8];
     let mut key = configured(&memory);
     key.receive(&mut memory, &BAD_BLOCK, START, 8).unwrap();
-    key.raw.seal += 1; // the lowest byte is the version
+    key.raw.seal += 1; // the lowest byte is the struct version
     assert_eq!(key.check(), Err(Refusal::NotAKey));
     assert_eq!(key.configure(&memory, &configuration()), Err(Refusal::NotAKey));
     assert_eq!(key.send(&memory, &mut [0; 16], START, 8), Err(Refusal::NotAKey));
@@ -68,9 +75,43 @@ fn a_session_of_another_version_is_refused_and_not_lost() {
 }
 
 #[test]
-fn an_error_of_a_type_without_a_name_is_not_taken_for_another() {
-    let mut checked = ffi::check(Key::new().raw);
-    assert_eq!(BlockError::of(&checked), Ok(None));
-    checked.error_type = 4;
-    assert_eq!(BlockError::of(&checked), Err(Refusal::Unknown(4)));
+fn an_error_of_an_unknown_type_is_not_taken_for_another() {
+    let mut error = ffi::check(Key::new().raw).error;
+    assert_eq!(BlockError::of(&checked(error)), Ok(None));
+    error.error_type = 4;
+    assert_eq!(BlockError::of(&checked(error)), Err(Refusal::Unknown(4)));
+}
+
+#[test]
+fn the_library_has_the_crates_version() {
+    assert_eq!(texts::version(), env!("CARGO_PKG_VERSION"));
+}
+
+#[test]
+fn the_library_has_the_crates_words_for_refusals() {
+    assert_eq!(texts::answer_text(ffi::ANSWER_DONE), "done");
+    for refusal in refusal::NAMED {
+        assert_eq!(texts::answer_text(refusal.number()), refusal.to_string());
+    }
+    let named = (0..2000).filter(|&answer| texts::answer_text(answer) != "unknown answer");
+    assert_eq!(named.count(), 1 + refusal::NAMED.len());
+}
+
+#[test]
+fn the_library_has_the_crates_words_for_errors() {
+    let numbers = [0, 0x1F, 0x9CD9, 0xFFFF, 0x1_0000, u32::MAX];
+    for error_type in [ffi::ERROR_GUARD, ffi::ERROR_REFERENCE, ffi::ERROR_APPLICATION] {
+        for (actual, expected) in numbers.iter().flat_map(|&a| numbers.map(|b| (a, b))) {
+            for offset in [0, 1560, u32::MAX] {
+                let error = ffi::Error {
+                    error_type,
+                    actual,
+                    expected,
+                    offset,
+                };
+                let block_error = BlockError::of(&checked(error)).unwrap().unwrap();
+                assert_eq!(texts::error_text(error), block_error.to_string());
+            }
+        }
+    }
 }

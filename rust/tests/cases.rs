@@ -48,7 +48,7 @@ fn case_b_has_no_error() {
 #[test]
 fn case_c_is_a_guard_error() {
     let error = BlockError {
-        field: Field::Guard,
+        tag: Tag::Guard,
         actual: 0x9CD9,
         expected: 0,
         offset: 16,
@@ -67,7 +67,7 @@ fn case_d_leaves_the_guard_out() {
 fn case_h_is_an_application_error() {
     let (wire, configuration) = escaped();
     let error = BlockError {
-        field: Field::ApplicationTag,
+        tag: Tag::Application,
         actual: 0x1234,
         expected: 0xFFFF,
         offset: 0,
@@ -83,11 +83,11 @@ fn case_i_leaves_the_application_tag_out() {
 }
 
 #[test]
-fn a_wrong_reference_tag_is_told_in_words() {
+fn a_wrong_reference_tag_is_said_in_words() {
     let mut wire = WIRE;
     wire[31] = 9;
     let error = received(&case_a(), &wire).unwrap();
-    assert_eq!(error.field, Field::ReferenceTag);
+    assert_eq!(error.tag, Tag::Reference);
     assert_eq!(
         error.to_string(),
         "bad reference tag in the block at byte 16 of the input stream: \
@@ -138,7 +138,7 @@ fn case_j_walks_entries_then_repeats() {
 }
 
 #[test]
-fn a_given_copy_mask_keeps_a_spoilt_guard() {
+fn a_given_copy_mask_keeps_a_damaged_guard() {
     let mut configuration = configuration(Layout::contiguous(32), signed().into(), signed().into());
     configuration.signature.copy = Copying::Given(Mask::GUARD);
     let mut memory = [0; 32];

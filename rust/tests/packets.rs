@@ -1,11 +1,11 @@
-//! Packets that end anywhere.
+//! Receives by packets that end anywhere.
 
 mod common;
 
 use common::{case_a, configuration, configured, signed, totals, DATA, START, WIRE};
 use garoalva::*;
 
-/// Bytes that case A's receive has written after so many wire bytes: a unit is eight of data and eight of field.
+/// Returns how many bytes case A's receive has written after `taken` wire bytes: a unit is a block of 8 and its field.
 fn written_after(taken: usize) -> usize {
     taken / 16 * 8 + (taken % 16).min(8)
 }
@@ -78,7 +78,7 @@ fn case_n() {
 }
 
 #[test]
-fn abandon_gives_the_errors_of_whole_blocks_alone() {
+fn abandon_keeps_the_errors_of_whole_blocks_alone() {
     let mut wire = WIRE;
     wire[7] = 3;
     for taken in 0..=wire.len() {

@@ -1,4 +1,4 @@
-//! Every refusal that can be reached, and that it changes nothing.
+//! Every refusal that this crate's types can lead to, and that a refused call changes nothing.
 
 mod common;
 
@@ -73,11 +73,11 @@ fn a_copy_mask_without_two_signatures() {
 }
 
 #[test]
-fn unlike_block_sizes() {
-    let mut unlike = configuration(Layout::contiguous(16), blocks_of(8), blocks_of(16));
-    assert_eq!(refused(&DATA, &unlike), Some(Refusal::BlockSizes));
-    unlike.signature.copy = Copying::Given(Mask::ALL);
-    assert_eq!(refused(&DATA, &unlike), Some(Refusal::CopyMask));
+fn different_block_sizes() {
+    let mut different = configuration(Layout::contiguous(16), blocks_of(8), blocks_of(16));
+    assert_eq!(refused(&DATA, &different), Some(Refusal::BlockSizes));
+    different.signature.copy = Copying::Given(Mask::ALL);
+    assert_eq!(refused(&DATA, &different), Some(Refusal::CopyMask));
 }
 
 #[test]
@@ -165,7 +165,7 @@ fn packets_too_long_and_a_finish_too_early() {
     assert_eq!(early.refusal, Refusal::BytesToCome);
     assert_eq!(
         early.to_string(),
-        "the session did not end: not all wire bytes have come"
+        "the session did not end: not all wire bytes have arrived"
     );
     session = early.session;
     assert_eq!(session.packet(&mut memory, &WIRE[9..]), totals(32, 16));
@@ -201,6 +201,6 @@ fn refusals_have_numbers_and_words() {
     assert_eq!(Refusal::Unknown(77).number(), 77);
     assert_eq!(
         Refusal::Unknown(77).to_string(),
-        "the linked library answered 77, which has no name here"
+        "the linked library returned 77, which this crate does not know"
     );
 }

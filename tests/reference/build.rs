@@ -1,4 +1,4 @@
-//! Tells the linker where libgaroalva.a lies, if the feature `live` asks for it.
+//! Links libgaroalva.a from the directory GAROALVA_LIB, or from the repository's build/, if the feature `live` is on.
 
 use std::env;
 use std::path::Path;

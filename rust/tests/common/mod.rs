@@ -1,4 +1,4 @@
-//! Case A of the rule book, which the tests vary.
+//! Case A of the customer's rule book, which the tests vary.
 
 use garoalva::*;
 
@@ -45,6 +45,6 @@ pub fn configured(memory: &[u8], configuration: &Configuration) -> Key {
     key
 }
 
-pub fn totals(taken: u64, written: u64) -> Result<Transferred, Refusal> {
-    Ok(Transferred { taken, written })
+pub fn totals(taken: u64, written: u64) -> Result<Totals, Refusal> {
+    Ok(Totals { taken, written })
 }

@@ -1,5 +1,5 @@
-//! Cases: lists of calls in the vocabulary of tests/reference/README.md. What they should come to is the model's
-//! business.
+//! Cases: lists of calls in the notation of tests/reference/README.md. A case does not say what its calls must return:
+//! the model does.
 
 pub mod random;
 pub mod settled;
@@ -7,7 +7,7 @@ pub mod settled;
 use crate::model::{Configuration, Domain, Entry, Layout, Rule, Signature};
 use crate::script::{Call, BUFFER_SIZE};
 
-/// How many bytes the two buffers of a case have.
+/// The sizes of a case's two buffers, in bytes.
 #[derive(Clone, Copy, PartialEq, Eq)]
 pub struct Buffers {
     pub memory: usize,
@@ -15,21 +15,21 @@ pub struct Buffers {
 }
 
 impl Buffers {
-    /// README.md's.
+    /// The sizes that README.md names.
     pub const REPLAY: Buffers = Buffers { memory: BUFFER_SIZE, wire: BUFFER_SIZE };
 }
 
-/// A case starts from README.md's first state.
+/// A list of calls, which starts from the state that README.md describes.
 #[derive(Clone)]
 pub struct Case {
     pub name: String,
-    /// Larger than README.md's in a few cases that can only be run live.
+    /// In a few cases the buffers are larger than README.md's, and these can only be run live.
     pub buffers: Buffers,
     pub calls: Vec<Call>,
 }
 
 impl Case {
-    /// A case with a fresh key and patterns in both buffers, so that it can also follow another.
+    /// Makes a case that begins with a fresh key and patterns in both buffers, so that it can also follow another case.
     pub fn named(name: impl Into<String>) -> Case {
         let calls = vec![Call::New, Call::FillMemory { pattern: 1 }, Call::FillWire { pattern: 2 }];
         Case { name: name.into(), buffers: Buffers::REPLAY, calls }
@@ -56,13 +56,13 @@ pub enum Direction {
     Receive,
 }
 
-/// A transfer that a case is about, and the calls that belong to it.
+/// The transfer that a case is about. Its methods make the calls that belong to it.
 #[derive(Clone)]
 pub struct Plan {
     pub memory: u64,
     pub configuration: Configuration,
     pub offset: u64,
-    pub length: u64,
+    pub data_length: u64,
 }
 
 impl Plan {
@@ -75,12 +75,12 @@ impl Plan {
     }
 
     pub fn wire_stream(&self) -> u64 {
-        self.signature().wire.stream_length(self.length) as u64
+        self.signature().wire.stream_length(self.data_length) as u64
     }
 
-    /// The stream that a transfer in this direction reads.
+    /// The length of the stream that a transfer in this direction reads.
     pub fn input_stream(&self, direction: Direction) -> u64 {
-        self.input_domain(direction).stream_length(self.length) as u64
+        self.input_domain(direction).stream_length(self.data_length) as u64
     }
 
     pub fn input_domain(&self, direction: Direction) -> &Domain {
@@ -95,11 +95,16 @@ impl Plan {
     }
 
     pub fn send(&self) -> Call {
-        Call::Send { memory: self.memory, wire: self.wire_stream(), offset: self.offset, length: self.length }
+        Call::Send { memory: self.memory, wire: self.wire_stream(), offset: self.offset, data_length: self.data_length }
     }
 
     pub fn receive(&self) -> Call {
-        Call::Receive { memory: self.memory, wire: self.wire_stream(), offset: self.offset, length: self.length }
+        Call::Receive {
+            memory: self.memory,
+            wire: self.wire_stream(),
+            offset: self.offset,
+            data_length: self.data_length,
+        }
     }
 
     pub fn transfer(&self, direction: Direction) -> Call {
@@ -110,15 +115,16 @@ impl Plan {
     }
 
     pub fn open(&self) -> Call {
-        Call::Open { memory: self.memory, offset: self.offset, length: self.length }
+        Call::Open { memory: self.memory, offset: self.offset, data_length: self.data_length }
     }
 
     pub fn packet(&self, at: u64, count: u64) -> Call {
         Call::Packet { memory: self.memory, at, count }
     }
 
-    /// Calls that put a valid input stream in its place: a signed one is made by a transfer the other way, in which the
-    /// output side has no signature. The buffer that this read is filled anew, so that the transfer itself shows.
+    /// Returns calls that put a valid input stream in its place. A signed one is made by a transfer in the other
+    /// direction, whose other side is unsigned. The buffer that this transfer read is then filled anew, so that the
+    /// transfer under test changes it.
     pub fn prepare(&self, direction: Direction) -> Vec<Call> {
         if !self.input_domain(direction).signed() {
             return Vec::new();
@@ -137,7 +143,7 @@ impl Plan {
         }
     }
 
-    /// Sets one byte of the input stream.
+    /// Returns a call that sets one byte of the input stream.
     pub fn set_input(&self, direction: Direction, at: u64, byte: u8) -> Call {
         match direction {
             Direction::Send => {

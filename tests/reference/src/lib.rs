@@ -1,7 +1,9 @@
-//! The independent test program. `model` is document 01 written down plainly, and `paper` holds it to the papers' own
-//! numbers. `cases` makes lists of calls in the vocabulary of tests/reference/README.md, which is `script`. `replay`
-//! writes them to a file with the answers that the model gives, and `live` runs them on the library and on the model
-//! side by side.
+//! The independent test program.
+//!
+//! `model` is the customer's rule book as a plain program, and `paper` compares it with the numbers that the papers
+//! print. `cases` makes lists of calls; `script` holds these calls and their notation, which tests/reference/README.md
+//! describes. `replay` writes cases to a file, with the answers that the model returns. `live` runs cases on the library
+//! and on the model side by side.
 
 pub mod cases;
 #[cfg(feature = "live")]

@@ -1,5 +1,6 @@
-//! The library held against the model, live: random cases call by call, and records that no call ever made. All calls
-//! are made in child processes, so that the program outlives the library and can make a case small.
+//! Compares the library with the model: settled and random cases, call by call, and cases with structs that no call ever
+//! made. All calls are made in child processes, so that the program survives a crash of the library and can make the case
+//! small.
 
 mod child;
 mod compared;
@@ -17,13 +18,13 @@ use std::os::unix::process::ExitStatusExt;
 use std::process::ExitStatus;
 use trial::{Fault, Trial};
 
-/// Every so many numbers one is a case of hostile records.
+/// One in this many random cases is a case with hostile structs.
 const HOSTILE_EVERY: u64 = 8;
 
-/// A case that doesn't return is run many times to make it small, with this part of its time.
+/// A case that doesn't return is run many times to make it small, each time with its limit divided by this.
 const SHORT: u32 = 50;
 
-/// The words for a call that doesn't return.
+/// The fault of a call that doesn't return.
 const HANGS: &str = "a call doesn't return";
 
 /// Which cases are run, and how.
@@ -32,7 +33,7 @@ pub struct Run {
     pub seed: u64,
     /// The number of the first random case; before number 0 come the settled ones.
     pub from: u64,
-    /// Each call is lent blocks of the very size, for valgrind.
+    /// Each call is lent heap blocks of exactly the size, for valgrind.
     pub exact: bool,
 }
 
@@ -40,7 +41,7 @@ pub struct Run {
 struct Row<'a> {
     count: u64,
     trial: &'a dyn Fn(u64) -> Trial,
-    /// The numbers behind `reference live` that run such a case again.
+    /// The arguments of `reference live` that run such a case again.
     again: &'a dyn Fn(u64) -> String,
 }
 
@@ -82,12 +83,12 @@ impl Run {
         }
     }
 
-    /// The number of calls made, or a report of the case that went wrong.
+    /// Returns the number of calls made, or a report of the case that went wrong.
     fn run_row(&self, row: &Row, step: impl FnMut()) -> Result<u64, String> {
         let Heard { cases, calls, fault } = self.run_in_child(row.count, row.trial, 1, step);
         match fault {
             None => Ok(calls),
-            Some(fault) if cases == row.count => Err(format!("behind the last case: {}", fault.words)),
+            Some(fault) if cases == row.count => Err(format!("after the last case: {}", fault.words)),
             Some(fault) => {
                 let report = self.report(&(row.trial)(cases), &fault);
                 let flag = if self.exact { " --exact" } else { "" };
@@ -96,7 +97,7 @@ impl Run {
         }
     }
 
-    /// Runs so many cases in one child, each in a part of its time, up to the first fault.
+    /// Runs `count` cases in one child, up to the first fault. The time limit of each is divided by `part`.
     fn run_in_child(&self, count: u64, trial: &dyn Fn(u64) -> Trial, part: u32, mut step: impl FnMut()) -> Heard {
         let (mut cases, mut calls, mut said) = (0, 0, Vec::new());
         let work = |parent: &mut PipeWriter| {
@@ -124,7 +125,7 @@ impl Run {
         Heard { cases, calls, fault }
     }
 
-    /// The case made small, with its fault.
+    /// Returns a report with the fault and the case, made small.
     fn report(&self, trial: &Trial, fault: &Fault) -> String {
         let again = |trial: &Trial, part: u32| {
             let found = self.run_in_child(1, &|_| trial.clone(), part, || {}).fault;
@@ -141,21 +142,21 @@ impl Run {
     }
 }
 
-/// What came of a child: cases without a fault, their calls, and the fault of the case behind them.
+/// What a child said: the number of cases without a fault, the number of their calls, and the fault of the next case.
 struct Heard {
     cases: u64,
     calls: u64,
     fault: Option<Fault>,
 }
 
-/// The fault of a child that said none.
+/// Returns the fault of a child that ended without naming one.
 fn fault_of_end(end: ExitStatus) -> Fault {
     let hangs = end.signal() == Some(child::ALARM);
     let words = if hangs { HANGS.to_string() } else { format!("the process ends with {end}") };
     Fault { words, more: "expected: each call returns".to_string() }
 }
 
-/// A line on a terminal that is written over, else a line for each tenth.
+/// Prints the progress: on a terminal in one line that is overwritten, else in a line for each tenth.
 struct Progress {
     total: u64,
     done: u64,
@@ -178,7 +179,7 @@ impl Progress {
         if self.on_terminal {
             let end = if self.done == self.total { "\n" } else { "" };
             eprint!("\rlive: {percent} %{end}");
-            // A progress line that can't be written is no reason to stop.
+            // If the progress can't be printed, the run goes on.
             let _ = stderr().flush();
         } else {
             eprintln!("live: {percent} %");

@@ -28,12 +28,12 @@ fn main() -> ExitCode {
 }
 
 fn number(text: &str) -> Result<u64, String> {
-    text.parse().map_err(|_| format!("{text} is no number\n{USAGE}"))
+    text.parse().map_err(|_| format!("{text} is not a number\n{USAGE}"))
 }
 
 fn run_paper() -> Result<(), String> {
     let findings = paper::findings();
-    println!("paper: {} numbers held against the model, {} differ", findings.held, findings.differences.len());
+    println!("paper: {} numbers compared with the model, {} differ", findings.compared, findings.differences.len());
     if findings.differences.is_empty() {
         Ok(())
     } else {

@@ -1,5 +1,6 @@
-//! Document 01 as a program: byte by byte, in exact numbers, in the paper's order, written to be read beside it and not
-//! to be fast. Words in quotation marks are the paper's own. Nothing here comes from the library or from its proofs.
+//! The customer's rule book (paper 01, "Signed block transfers") as a program. It works byte by byte and in exact
+//! numbers, in the paper's order: it is written to be read beside the paper, not to be fast. Words in quotation marks
+//! are the paper's own. Nothing here comes from the library or from its proofs.
 
 use std::ops::Range;
 
@@ -7,12 +8,12 @@ use std::ops::Range;
 
 pub const FIELD_SIZE: usize = 8;
 
-/// "guard (2), application tag (2), reference tag (4)": where they lie in the field.
+/// "guard (2), application tag (2), reference tag (4)": the bytes of each in the field.
 pub const GUARD: Range<usize> = 0..2;
 pub const APPLICATION: Range<usize> = 2..4;
 pub const REFERENCE: Range<usize> = 4..8;
 
-/// A domain's kinds, guard types and flags.
+// A domain's kinds, guard types and flags.
 pub const NO_SIGNATURE: u32 = 0;
 pub const T10_DIF: u32 = 1;
 pub const CRC: u32 = 0;
@@ -66,12 +67,12 @@ pub fn checksum_guard(seed: u16, data: &[u8]) -> u16 {
     !ones_complement_sum(seed, data)
 }
 
-/// A field's number, "the high byte first".
+/// The number that bytes of a field hold, "the high byte first".
 fn number(bytes: &[u8]) -> u32 {
     bytes.iter().fold(0, |value, &byte| value * 256 + u32::from(byte))
 }
 
-/// "Mask bit 7 stands for the first byte, bit 0 for the last".
+/// Whether byte `at` of a field is in the mask: "Mask bit 7 stands for the first byte, bit 0 for the last".
 fn mask_bit(mask: u8, at: usize) -> bool {
     mask >> (7 - at) & 1 == 1
 }
@@ -97,7 +98,7 @@ impl Domain {
         ((u128::from(self.reference_tag) + step) % 4_294_967_296) as u32
     }
 
-    /// Byte `at` of the field that this domain's rule gives for a block.
+    /// Byte `at` of the field that this domain's rule computes for a block.
     fn field_byte(&self, data: &[u8], block: usize, at: usize) -> u8 {
         match at {
             0..2 => self.guard(data).to_be_bytes()[at],
@@ -126,7 +127,7 @@ impl Domain {
         }
     }
 
-    /// One block of that stream.
+    /// The length of one block of that stream, with its field if it has one.
     fn unit(&self, block_size: usize) -> usize {
         block_size + if self.signed() { FIELD_SIZE } else { 0 }
     }
@@ -136,7 +137,7 @@ impl Domain {
 
 pub const COPY_MASK_GIVEN: u32 = 1;
 
-/// Check's types. They don't follow the order of the fields.
+// The error types that check returns. They don't follow the order of the fields.
 pub const GUARD_ERROR: u64 = 1;
 pub const REFERENCE_ERROR: u64 = 2;
 pub const APPLICATION_ERROR: u64 = 3;
@@ -179,17 +180,18 @@ impl Signature {
     }
 }
 
-/// What the error slot holds. "Actual" is what the input domain's rule gives, "expected" what was found.
+/// What the error slot holds. "Actual" is what the input domain's rule computes, "expected" what was found.
 #[derive(Clone, Copy, Debug, PartialEq, Eq)]
 pub struct BlockError {
-    pub kind: u64,
+    pub error_type: u64,
     pub actual: u32,
     pub expected: u32,
     pub offset: u64,
 }
 
-/// The transfer rule in one direction, from an input stream to an output stream and an error. A byte of the outcome
-/// looks at no more of the input than it is made of, so for the packets a stream that is cut short will do.
+/// The transfer rule in one direction, from an input stream to an output stream and an error. Each output byte is
+/// computed from the input bytes that it depends on alone, so the rule works on a stream of which only a part has
+/// arrived.
 pub struct Rule {
     input: Domain,
     output: Domain,
@@ -214,25 +216,25 @@ impl Rule {
         Rule { input, output, ..Rule::send(signature) }
     }
 
-    /// The size of the blocks that carry fields: none if neither side is signed.
+    /// The block size of the signed sides; `None` if neither side is signed.
     pub fn block_size(&self) -> Option<usize> {
         let signed = [&self.input, &self.output].into_iter().find(|domain| domain.signed())?;
         Some(signed.block_size as usize)
     }
 
-    /// The data of a block of the input.
+    /// The data of a block of the input stream.
     fn data<'a>(&self, stream: &'a [u8], block: usize, size: usize) -> &'a [u8] {
         let start = block * self.input.unit(size);
         &stream[start..start + size]
     }
 
-    /// The field behind a block of a signed input.
+    /// The field that was found after a block of a signed input stream.
     fn found(&self, stream: &[u8], block: usize, size: usize) -> [u8; FIELD_SIZE] {
         let start = block * self.input.unit(size) + size;
         std::array::from_fn(|at| stream[start + at])
     }
 
-    /// Byte `at` of the output stream: data goes over as it is.
+    /// Byte `at` of the output stream. Data is copied unchanged.
     fn output_byte(&self, stream: &[u8], at: usize) -> u8 {
         let Some(size) = self.block_size() else {
             return stream[at];
@@ -254,30 +256,31 @@ impl Rule {
         }
     }
 
-    /// The first bytes of the output stream.
+    /// The first `length` bytes of the output stream.
     fn output(&self, stream: &[u8], length: usize) -> Vec<u8> {
         (0..length).map(|at| self.output_byte(stream, at)).collect()
     }
 
-    /// A block's first bad field, "in the order guard, application, reference". It is reported whole and unmasked, with
-    /// "the place in the input stream where the block's data begins".
+    /// A block's first bad field, "in the order guard, application, reference". The error has the whole field, whatever
+    /// the mask, and "the place in the input stream where the block's data begins".
     fn bad_field(&self, stream: &[u8], block: usize, size: usize) -> Option<BlockError> {
         let data = self.data(stream, block, size);
-        let given: [u8; FIELD_SIZE] = std::array::from_fn(|at| self.input.field_byte(data, block, at));
+        let computed: [u8; FIELD_SIZE] = std::array::from_fn(|at| self.input.field_byte(data, block, at));
         let found = self.found(stream, block, size);
         let guard = (GUARD_ERROR, GUARD);
         let others = [(APPLICATION_ERROR, APPLICATION), (REFERENCE_ERROR, REFERENCE)];
         let checked_guard = if self.input.escapes(&found) { None } else { Some(guard) };
         let mut checked = checked_guard.into_iter().chain(others);
-        let (kind, bytes) = checked.find(|(_, bytes)| bytes.clone().any(|at| self.is_bad_byte(&given, &found, at)))?;
+        let (error_type, bytes) =
+            checked.find(|(_, bytes)| bytes.clone().any(|at| self.is_bad_byte(&computed, &found, at)))?;
         let offset = (block * self.input.unit(size)) as u64;
-        let (actual, expected) = (number(&given[bytes.clone()]), number(&found[bytes]));
-        Some(BlockError { kind, actual, expected, offset })
+        let (actual, expected) = (number(&computed[bytes.clone()]), number(&found[bytes]));
+        Some(BlockError { error_type, actual, expected, offset })
     }
 
     /// "a byte whose check bit is set differs from what the input domain's rule gives"
-    fn is_bad_byte(&self, given: &[u8; FIELD_SIZE], found: &[u8; FIELD_SIZE], at: usize) -> bool {
-        mask_bit(self.check_mask, at) && given[at] != found[at]
+    fn is_bad_byte(&self, computed: &[u8; FIELD_SIZE], found: &[u8; FIELD_SIZE], at: usize) -> bool {
+        mask_bit(self.check_mask, at) && computed[at] != found[at]
     }
 
     /// "the first bad block's first bad field". "With no input signature nothing is checked."
@@ -323,14 +326,14 @@ struct Piece {
 }
 
 impl Piece {
-    /// Whether some byte lies in both.
+    /// Whether the two pieces share a byte.
     fn meets(&self, other: &Piece) -> bool {
         self.start < other.end && other.start < self.end
     }
 }
 
 impl Layout {
-    /// The entries behind the used ones are ignored.
+    /// The entries after the used ones are ignored.
     fn used_entries(&self) -> &[Entry] {
         &self.entries[..self.used as usize]
     }
@@ -349,7 +352,7 @@ impl Layout {
         })
     }
 
-    /// "the layout's total": how many bytes it has.
+    /// "the layout's total": the number of its bytes.
     pub fn total(&self) -> u128 {
         self.pieces().map(|piece| piece.end - piece.start).sum()
     }
@@ -359,13 +362,13 @@ impl Layout {
         self.pieces().flat_map(|piece| piece.start as usize..piece.end as usize)
     }
 
-    /// The places of a memory stream: "an offset in layout bytes, where the memory stream begins".
+    /// The places in memory of a memory stream's bytes: "an offset in layout bytes, where the memory stream begins".
     fn stream_places(&self, offset: u64, length: usize) -> Vec<usize> {
         self.places().skip(offset as usize).take(length).collect()
     }
 }
 
-/// Puts bytes in their places.
+/// Writes each byte to its place in memory.
 fn scatter(memory: &mut [u8], places: &[usize], bytes: &[u8]) {
     for (&place, &byte) in places.iter().zip(bytes) {
         memory[place] = byte;
@@ -393,13 +396,13 @@ pub mod answer {
     pub const LONG_PACKET: u64 = 12;
     pub const BYTES_TO_COME: u64 = 13;
     pub const NOT_CONFIGURED: u64 = 14;
-    /// The C interface's own two: a record that is no key, or no session, or whose session has ended.
+    /// The C API adds two answers: a struct is no key, or it is no session or the session has ended.
     pub const NOT_A_KEY: u64 = 1000;
     pub const NOT_A_SESSION: u64 = 1001;
 }
 
 impl Domain {
-    /// Answer 1 of one domain. "In a domain of kind 0 all other numbers are ignored."
+    /// Whether answer 1 applies to one domain. "In a domain of kind 0 all other numbers are ignored."
     fn is_bad(&self) -> bool {
         let bad_number = !good_block_size(self.block_size)
             || !matches!(self.guard_type, CRC | CHECKSUM)
@@ -408,12 +411,12 @@ impl Domain {
         self.kind > T10_DIF || self.signed() && bad_number
     }
 
-    /// Answer 2 of one domain: "an escape flag and configured application tag 0xFFFF".
+    /// Whether answer 2 applies to one domain: "an escape flag and configured application tag 0xFFFF".
     fn escapes_its_own_tag(&self) -> bool {
         self.signed() && self.flags & (APPLICATION_ESCAPE | BOTH_ESCAPE) != 0 && self.application_tag == 0xFFFF
     }
 
-    /// Answer 9 of one domain: "L not a multiple of a T10-DIF domain's block size".
+    /// Whether answer 9 applies to one domain: "L not a multiple of a T10-DIF domain's block size".
     fn cuts_a_block(&self, data_length: u64) -> bool {
         self.signed() && !data_length.is_multiple_of(u64::from(self.block_size))
     }
@@ -491,7 +494,7 @@ pub struct Configuration {
 }
 
 impl Configuration {
-    /// What configure answers: "configure 8, 1 to 7".
+    /// Configure's answer: "configure 8, 1 to 7".
     pub fn judge(&self, memory_length: u64) -> u64 {
         if memory_length > MEMORY_LIMIT {
             return answer::MEMORY_LENGTH;
@@ -503,7 +506,7 @@ impl Configuration {
     }
 }
 
-/// A transfer's or a packet's answer.
+/// What a transfer or a packet returns.
 #[derive(Clone, Copy, Debug, PartialEq, Eq)]
 pub struct Totals {
     pub answer: u64,
@@ -552,57 +555,57 @@ impl Key {
         answer
     }
 
-    /// "transfer and open 14, 8, 9, 10": what the key was configured with, or the answer of a refusal.
-    fn admit(&self, memory: &[u8], offset: u64, length: u64) -> Result<Configured, u64> {
+    /// "transfer and open 14, 8, 9, 10": returns what the key was configured with, or the answer of a refusal.
+    fn admit(&self, memory: &[u8], offset: u64, data_length: u64) -> Result<Configured, u64> {
         let configured = self.configured.ok_or(answer::NOT_CONFIGURED)?;
         let signature = &configured.signature;
         if memory.len() as u64 != configured.memory_length {
             return Err(answer::MEMORY_LENGTH);
         }
-        if signature.memory.cuts_a_block(length) || signature.wire.cuts_a_block(length) {
+        if signature.memory.cuts_a_block(data_length) || signature.wire.cuts_a_block(data_length) {
             return Err(answer::PARTIAL_BLOCK);
         }
-        if u128::from(offset) + signature.memory.stream_length(length) > configured.layout.total() {
+        if u128::from(offset) + signature.memory.stream_length(data_length) > configured.layout.total() {
             return Err(answer::PAST_LAYOUT);
         }
         Ok(configured)
     }
 
     /// "then 11 (not open)"
-    fn admit_with_wire(&self, memory: &[u8], wire: &[u8], offset: u64, length: u64) -> Result<Configured, u64> {
-        let configured = self.admit(memory, offset, length)?;
-        if (wire.len() as u128) < configured.signature.wire.stream_length(length) {
+    fn admit_with_wire(&self, memory: &[u8], wire: &[u8], offset: u64, data_length: u64) -> Result<Configured, u64> {
+        let configured = self.admit(memory, offset, data_length)?;
+        if (wire.len() as u128) < configured.signature.wire.stream_length(data_length) {
             return Err(answer::SHORT_WIRE);
         }
         Ok(configured)
     }
 
     /// Send, "memory to wire". "Wire bytes past the stream are not read and not written."
-    pub fn send(&mut self, memory: &[u8], wire: &mut [u8], offset: u64, length: u64) -> Totals {
-        let Configured { layout, signature, .. } = match self.admit_with_wire(memory, wire, offset, length) {
+    pub fn send(&mut self, memory: &[u8], wire: &mut [u8], offset: u64, data_length: u64) -> Totals {
+        let Configured { layout, signature, .. } = match self.admit_with_wire(memory, wire, offset, data_length) {
             Ok(configured) => configured,
             Err(answer) => return Totals::refused(answer),
         };
         let rule = Rule::send(&signature);
-        let places = layout.stream_places(offset, signature.memory.stream_length(length) as usize);
+        let places = layout.stream_places(offset, signature.memory.stream_length(data_length) as usize);
         let stream: Vec<u8> = places.iter().map(|&place| memory[place]).collect();
-        let output = rule.output(&stream, signature.wire.stream_length(length) as usize);
+        let output = rule.output(&stream, signature.wire.stream_length(data_length) as usize);
         wire[..output.len()].copy_from_slice(&output);
-        self.record(rule.error(&stream, length));
+        self.record(rule.error(&stream, data_length));
         Totals::done(stream.len(), output.len())
     }
 
     /// Receive, "wire to memory".
-    pub fn receive(&mut self, memory: &mut [u8], wire: &[u8], offset: u64, length: u64) -> Totals {
-        let Configured { layout, signature, .. } = match self.admit_with_wire(memory, wire, offset, length) {
+    pub fn receive(&mut self, memory: &mut [u8], wire: &[u8], offset: u64, data_length: u64) -> Totals {
+        let Configured { layout, signature, .. } = match self.admit_with_wire(memory, wire, offset, data_length) {
             Ok(configured) => configured,
             Err(answer) => return Totals::refused(answer),
         };
         let rule = Rule::receive(&signature);
-        let stream = &wire[..signature.wire.stream_length(length) as usize];
-        let output = rule.output(stream, signature.memory.stream_length(length) as usize);
+        let stream = &wire[..signature.wire.stream_length(data_length) as usize];
+        let output = rule.output(stream, signature.memory.stream_length(data_length) as usize);
         scatter(memory, &layout.stream_places(offset, output.len()), &output);
-        self.record(rule.error(stream, length));
+        self.record(rule.error(stream, data_length));
         Totals::done(stream.len(), output.len())
     }
 
@@ -616,42 +619,42 @@ impl Key {
         check_numbers(self.slot.take())
     }
 
-    /// Open: the session, or the answer of a refusal.
-    pub fn open(&self, memory: &[u8], offset: u64, length: u64) -> Result<Session, u64> {
-        let configured = self.admit(memory, offset, length)?;
+    /// Open: returns the session, or the answer of a refusal.
+    pub fn open(&self, memory: &[u8], offset: u64, data_length: u64) -> Result<Session, u64> {
+        let configured = self.admit(memory, offset, data_length)?;
         let (key, memory, accepted) = (*self, memory.to_vec(), Vec::new());
-        Ok(Session { key, configured, offset, length, memory, accepted })
+        Ok(Session { key, configured, offset, data_length, memory, accepted })
     }
 }
 
-/// What check answers for a slot.
+/// The four numbers that check returns for a slot.
 pub fn check_numbers(slot: Option<BlockError>) -> [u64; 4] {
-    slot.map_or([0; 4], |error| [error.kind, error.actual.into(), error.expected.into(), error.offset])
+    slot.map_or([0; 4], |error| [error.error_type, error.actual.into(), error.expected.into(), error.offset])
 }
 
 // Packets
 
-/// A received transfer under way: what open was given, the memory as it was then, and the bytes accepted since.
-/// Everything else that the packet rule speaks of is worked out from these alone, from the start each time.
+/// A receive by packets in progress: what open was passed, the memory as it was then, and the bytes accepted since.
+/// Everything else that the packet rule speaks of is computed from these, and from the start each time.
 #[derive(Clone)]
 pub struct Session {
     key: Key,
     configured: Configured,
     offset: u64,
-    length: u64,
+    data_length: u64,
     memory: Vec<u8>,
     accepted: Vec<u8>,
 }
 
 impl Session {
-    /// A session is a receive.
+    /// The transfer rule of a session, which is a receive.
     fn rule(&self) -> Rule {
         Rule::receive(&self.configured.signature)
     }
 
     /// "the bytes still to come are the wire stream's length less k"
     pub fn bytes_to_come(&self) -> usize {
-        let stream = self.configured.signature.wire.stream_length(self.length) as usize;
+        let stream = self.configured.signature.wire.stream_length(self.data_length) as usize;
         stream - self.accepted.len()
     }
 
@@ -678,7 +681,7 @@ impl Session {
         Totals::done(self.accepted.len(), self.output_length())
     }
 
-    /// "With q whole units and r bytes over": both, and the block size. None if neither side is signed.
+    /// "With q whole units and r bytes over": q, r and the block size. `None` if neither side is signed.
     fn whole_and_over(&self) -> Option<(usize, usize, usize)> {
         let rule = self.rule();
         let size = rule.block_size()?;

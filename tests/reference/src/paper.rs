@@ -1,27 +1,29 @@
-//! The numbers that document 01, SBC-3 and RFC 1071 print, held against the model.
+//! The model against the numbers that the rule book, SBC-3 and RFC 1071 print.
 
 mod answers;
 
+use crate::cases::list_layout;
 use crate::model::*;
 use std::fmt::Debug;
 
-/// What was held against the model so far.
+/// The comparisons made so far.
 #[derive(Default)]
 pub struct Findings {
-    pub held: usize,
+    pub compared: usize,
     pub differences: Vec<String>,
 }
 
 impl Findings {
-    fn hold<T: PartialEq + Debug>(&mut self, what: &str, paper: T, model: T) {
-        self.held += 1;
+    /// Compares a number of the papers with the model's.
+    fn compare<T: PartialEq + Debug>(&mut self, what: &str, paper: T, model: T) {
+        self.compared += 1;
         if paper != model {
             self.differences.push(format!("{what}: the paper has {paper:X?}, the model {model:X?}"));
         }
     }
 }
 
-/// All numbers of the papers.
+/// Compares all numbers of the papers.
 pub fn findings() -> Findings {
     let mut findings = Findings::default();
     let parts: [fn(&mut Findings); 11] = [
@@ -51,7 +53,7 @@ const CASE_A_WIRE: [u8; 32] = [
 ];
 
 /// "block 8, CRC, seed 0, tag 0x1234, reference 0xFFFFFFFF, remap"
-fn case_a_domain() -> Domain {
+pub fn case_a_domain() -> Domain {
     Domain {
         kind: T10_DIF,
         block_size: 8,
@@ -68,12 +70,6 @@ fn signature(wire: Domain) -> Signature {
     Signature { wire, check_mask: 0xFF, ..Signature::default() }
 }
 
-fn list_layout(entries: &[Entry]) -> Layout {
-    let mut layout = Layout { used: entries.len() as u32, repeat: 1, ..Layout::default() };
-    layout.entries[..entries.len()].copy_from_slice(entries);
-    layout
-}
-
 /// A key over one entry of `length` bytes of memory.
 fn key(length: usize, signature: Signature) -> Key {
     let layout = list_layout(&[Entry { start: 0, count: length as u32, skip: 0 }]);
@@ -82,14 +78,14 @@ fn key(length: usize, signature: Signature) -> Key {
     key
 }
 
-/// Receives a wire of two blocks of 8 and checks.
+/// Receives two blocks of 8 bytes from this wire, and returns what check then returns.
 fn check_of(wire: &[u8], signature: Signature) -> [u64; 4] {
     let mut key = key(16, signature);
     assert_eq!(key.receive(&mut [0; 16], wire, 0, 16).answer, answer::DONE);
     key.check()
 }
 
-/// 32 bytes each, seed 0.
+/// The CRCs that SBC-3 prints for 32 bytes, with seed 0.
 fn sbc_3(findings: &mut Findings) {
     let counting = std::array::from_fn(|at| at as u8);
     let mut two_set = [0; 32];
@@ -102,47 +98,47 @@ fn sbc_3(findings: &mut Findings) {
         ("SBC-3, FF FE .. E0", counting.map(|byte| 0xFF - byte), 0xA0B7),
     ];
     for (what, data, guard) in vectors {
-        findings.hold(what, guard, crc_guard(0, &data));
+        findings.compare(what, guard, crc_guard(0, &data));
     }
 }
 
 fn rfc_1071(findings: &mut Findings) {
     let data = [0x00, 0x01, 0xF2, 0x03, 0xF4, 0xF5, 0xF6, 0xF7];
-    findings.hold("RFC 1071, sum", 0xDDF2, ones_complement_sum(0, &data));
-    findings.hold("RFC 1071, checksum", 0x220D, checksum_guard(0, &data));
+    findings.compare("RFC 1071, sum", 0xDDF2, ones_complement_sum(0, &data));
+    findings.compare("RFC 1071, checksum", 0x220D, checksum_guard(0, &data));
 }
 
 fn cases_a_to_d(findings: &mut Findings) {
     let domain = case_a_domain();
     let mut wire = [0; 32];
     let totals = key(16, signature(domain)).send(&CASE_A_DATA, &mut wire, 0, 16);
-    findings.hold("A, wire", CASE_A_WIRE, wire);
-    findings.hold("A, totals", Totals { answer: 0, taken: 16, written: 32 }, totals);
-    findings.hold("B", [0; 4], check_of(&CASE_A_WIRE, signature(domain)));
-    let mut spoiled = CASE_A_WIRE;
-    spoiled[23] = 0x02;
-    findings.hold("C", [1, 0x9CD9, 0, 16], check_of(&spoiled, signature(domain)));
-    findings.hold("C, in the small program's decimals", [1, 40153, 0, 16], check_of(&spoiled, signature(domain)));
+    findings.compare("A, wire", CASE_A_WIRE, wire);
+    findings.compare("A, totals", Totals { answer: 0, taken: 16, written: 32 }, totals);
+    findings.compare("B", [0; 4], check_of(&CASE_A_WIRE, signature(domain)));
+    let mut damaged = CASE_A_WIRE;
+    damaged[23] = 0x02;
+    findings.compare("C", [1, 0x9CD9, 0, 16], check_of(&damaged, signature(domain)));
+    findings.compare("C, in the small program's decimals", [1, 40153, 0, 16], check_of(&damaged, signature(domain)));
     let masked = Signature { check_mask: 0x3F, ..signature(domain) };
-    findings.hold("D", [0; 4], check_of(&spoiled, masked));
+    findings.compare("D", [0; 4], check_of(&damaged, masked));
 }
 
 fn cases_e_to_g(findings: &mut Findings) {
     let words = [0x00, 0x01, 0x00, 0x02, 0x00, 0x03, 0x00, 0x04];
-    findings.hold("E, seed 0", 0xFFFF, checksum_guard(0, &[0; 8]));
-    findings.hold("E, seed 0xFFFF", 0, checksum_guard(0xFFFF, &[0; 8]));
-    findings.hold("F, seed 0", 0xFFF5, checksum_guard(0, &words));
-    findings.hold("F, seed 0xFFFF", 0xFFF5, checksum_guard(0xFFFF, &words));
-    findings.hold("G", 0xFFFE, checksum_guard(0, &[0xFF, 0xFF, 0x00, 0x01, 0, 0, 0, 0]));
+    findings.compare("E, seed 0", 0xFFFF, checksum_guard(0, &[0; 8]));
+    findings.compare("E, seed 0xFFFF", 0, checksum_guard(0xFFFF, &[0; 8]));
+    findings.compare("F, seed 0", 0xFFF5, checksum_guard(0, &words));
+    findings.compare("F, seed 0xFFFF", 0xFFF5, checksum_guard(0xFFFF, &words));
+    findings.compare("G", 0xFFFE, checksum_guard(0, &[0xFF, 0xFF, 0x00, 0x01, 0, 0, 0, 0]));
 }
 
 fn cases_h_and_i(findings: &mut Findings) {
     let domain = Domain { flags: REMAP | APPLICATION_ESCAPE, ..case_a_domain() };
     let mut wire = CASE_A_WIRE;
     wire[8..12].copy_from_slice(&[0x00, 0x00, 0xFF, 0xFF]);
-    findings.hold("H", [3, 0x1234, 0xFFFF, 0], check_of(&wire, signature(domain)));
+    findings.compare("H", [3, 0x1234, 0xFFFF, 0], check_of(&wire, signature(domain)));
     let masked = Signature { check_mask: 0xCF, ..signature(domain) };
-    findings.hold("I", [0; 4], check_of(&wire, masked));
+    findings.compare("I", [0; 4], check_of(&wire, masked));
 }
 
 fn cases_j_to_l(findings: &mut Findings) {
@@ -153,16 +149,16 @@ fn cases_j_to_l(findings: &mut Findings) {
     };
     let case_j = with_second_start(1_028);
     let places: Vec<usize> = case_j.layout.places().collect();
-    findings.hold("J, answer", 0, case_j.judge(1_044));
-    findings.hold("J, total", 1_040, case_j.layout.total());
-    findings.hold("J, places in all", 1_040, places.len());
-    findings.hold("J, layout byte 512", 1_028, places[512]);
-    findings.hold("J, layout byte 520", 516, places[520]);
-    findings.hold("K", 6, case_j.judge(1_043));
-    findings.hold("L", 7, with_second_start(1_027).judge(1_044));
+    findings.compare("J, answer", 0, case_j.judge(1_044));
+    findings.compare("J, total", 1_040, case_j.layout.total());
+    findings.compare("J, places in all", 1_040, places.len());
+    findings.compare("J, layout byte 512", 1_028, places[512]);
+    findings.compare("J, layout byte 520", 516, places[520]);
+    findings.compare("K", 6, case_j.judge(1_043));
+    findings.compare("L", 7, with_second_start(1_027).judge(1_044));
 }
 
-/// Feeds the wire in packets of these lengths; the written totals.
+/// Receives the wire in packets of these lengths, and returns the bytes written after each.
 fn written_totals(signature: Signature, memory_length: usize, wire: &[u8], packets: &[usize]) -> Vec<u64> {
     let mut memory = vec![0xEE; memory_length];
     let data_length = 16;
@@ -180,13 +176,13 @@ fn written_totals(signature: Signature, memory_length: usize, wire: &[u8], packe
 
 fn case_m(findings: &mut Findings) {
     let written = written_totals(signature(case_a_domain()), 16, &CASE_A_WIRE, &[0, 9, 0, 7, 16]);
-    findings.hold("M", vec![0, 8, 8, 8, 16], written);
+    findings.compare("M", vec![0, 8, 8, 8, 16], written);
 }
 
 fn case_n(findings: &mut Findings) {
     let signature = Signature { memory: case_a_domain(), check_mask: 0xFF, ..Signature::default() };
     let written = written_totals(signature, 32, &CASE_A_DATA, &[8, 1]);
-    findings.hold("N", vec![16, 17], written);
+    findings.compare("N", vec![16, 17], written);
 }
 
 fn sizes(findings: &mut Findings) {
@@ -194,34 +190,34 @@ fn sizes(findings: &mut Findings) {
         let domain = Domain { block_size, ..case_a_domain() };
         let layout = list_layout(&[Entry { start: 0, count: 1, skip: 0 }]);
         let configuration = Configuration { layout, signature: signature(domain) };
-        findings.hold(&format!("block size {block_size}"), answer, configuration.judge(1));
+        findings.compare(&format!("block size {block_size}"), answer, configuration.judge(1));
     }
 }
 
 /// "Errors that look reasonable", each on case A's and C's numbers.
 fn reasonable_errors(findings: &mut Findings) {
-    let mut spoiled = CASE_A_WIRE;
-    spoiled[23] = 0x02;
+    let mut damaged = CASE_A_WIRE;
+    damaged[23] = 0x02;
     let both = Signature { memory: case_a_domain(), ..signature(case_a_domain()) };
     let mut wire = [0; 32];
-    key(32, both).send(&spoiled, &mut wire, 0, 16);
-    findings.hold("a copied guard over spoiled data", spoiled, wire);
+    key(32, both).send(&damaged, &mut wire, 0, 16);
+    findings.compare("a copied guard over damaged data", damaged, wire);
     let fresh_guard = Signature { attribute_flags: COPY_MASK_GIVEN, copy_mask: 0x3F, ..both };
-    key(32, fresh_guard).send(&spoiled, &mut wire, 0, 16);
-    findings.hold("a generated guard over it", [0x9C, 0xD9], [wire[24], wire[25]]);
+    key(32, fresh_guard).send(&damaged, &mut wire, 0, 16);
+    findings.compare("a generated guard over it", [0x9C, 0xD9], [wire[24], wire[25]]);
     let half_masked = Signature { check_mask: 0x80, ..signature(case_a_domain()) };
-    findings.hold("reported values are not masked", [1, 0x9CD9, 0, 16], check_of(&spoiled, half_masked));
+    findings.compare("reported values are not masked", [1, 0x9CD9, 0, 16], check_of(&damaged, half_masked));
     let moved = [&[0xEE; 5], &CASE_A_DATA[..]].concat();
     key(21, signature(case_a_domain())).send(&moved, &mut wire, 5, 16);
-    findings.hold("the layout offset doesn't enter the reference tag", CASE_A_WIRE, wire);
+    findings.compare("the layout offset doesn't enter the reference tag", CASE_A_WIRE, wire);
 }
 
-/// Lengths whose memory stream is just 2^64 bytes or a little more, in blocks of 8 with their fields.
+/// Data lengths whose memory stream, in blocks of 8 with their fields, has 2^64 bytes or slightly more.
 fn huge_lengths(findings: &mut Findings) {
     let key = key(32, Signature { memory: case_a_domain(), ..Signature::default() });
-    for (length, answer) in [(1 << 63, 10), ((1 << 63) + 8, 10), (u64::MAX - 7, 10), (u64::MAX, 9)] {
-        let opened = key.open(&[0; 32], 0, length).err();
-        findings.hold(&format!("length {length:X}"), Some(answer), opened);
+    for (data_length, answer) in [(1 << 63, 10), ((1 << 63) + 8, 10), (u64::MAX - 7, 10), (u64::MAX, 9)] {
+        let opened = key.open(&[0; 32], 0, data_length).err();
+        findings.compare(&format!("length {data_length:X}"), Some(answer), opened);
     }
 }
 
@@ -230,7 +226,7 @@ mod tests {
     #[test]
     fn the_model_has_the_papers_numbers() {
         let findings = super::findings();
-        assert!(findings.held > 100);
+        assert!(findings.compared > 100);
         assert_eq!(findings.differences, Vec::<String>::new());
     }
 }

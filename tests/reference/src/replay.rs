@@ -1,4 +1,4 @@
-//! The case file that the `replay` program reads, and the text that a right program prints for it.
+//! The case file that the program `replay` reads, and the text that it must print.
 
 use crate::cases::{random, settled, Case};
 use crate::model::answer;
@@ -8,18 +8,18 @@ use std::fmt::Write;
 
 const RANDOM_CASES: usize = 200;
 const CASE_FILE_LIMIT: usize = 200_000;
-/// Longer random cases are left to the live runs.
+/// The longest text of a random case. Longer cases are left to the live runs.
 const RANDOM_CASE_LIMIT: usize = 700;
 
 pub struct Replay {
     pub case_file: String,
     pub answer_file: String,
     pub cases: usize,
-    /// How often each answer occurs.
+    /// The number of times that each answer occurs.
     pub answers: BTreeMap<u64, usize>,
 }
 
-/// All settled cases, and random ones of this seed.
+/// Makes a case file of all settled cases and of random cases of this seed.
 pub fn replay(seed: u64) -> Replay {
     let random = (0..).map(|number| random::case(seed, number));
     let short = random.filter(|case| case.text().len() <= RANDOM_CASE_LIMIT).take(RANDOM_CASES);
@@ -36,7 +36,7 @@ pub fn replay(seed: u64) -> Replay {
 impl Replay {
     fn run(&mut self, machine: &mut Machine, case: &Case) {
         for call in &case.calls {
-            assert!(machine.fits(call), "{}: {} asks for bytes outside the buffers", case.name, call.text());
+            assert!(machine.fits(call), "{}: {} needs bytes outside the buffers", case.name, call.text());
             assert!(machine.keeps_premise(call), "{}: memory was written before {}", case.name, call.text());
             if let Some(numbers) = machine.run(call) {
                 *self.answers.entry(numbers[0]).or_default() += 1;
@@ -48,12 +48,12 @@ impl Replay {
     fn print(&mut self, letter: char, numbers: &[u64], machine: &Machine) {
         self.answer_file.push(letter);
         for number in numbers.iter().copied().chain([digest(&machine.memory), digest(&machine.wire)]) {
-            write!(self.answer_file, " {number}").expect("a string takes all that is written");
+            write!(self.answer_file, " {number}").expect("a write to a string succeeds");
         }
         self.answer_file.push('\n');
     }
 
-    /// What the files still lack, if anything.
+    /// Returns what is wrong with the files.
     pub fn faults(&self) -> Vec<String> {
         let wanted = (answer::DONE..=answer::NOT_CONFIGURED).chain([answer::NOT_A_KEY, answer::NOT_A_SESSION]);
         let missing = wanted.filter(|number| !self.answers.contains_key(number));

@@ -1,4 +1,4 @@
-//! A small generator of numbers (splitmix64): a case is known by its seed and number alone.
+//! A small random number generator, splitmix64. The seed and number of a case decide all its random numbers.
 
 #[derive(Clone)]
 pub struct Rng {
@@ -10,7 +10,7 @@ impl Rng {
         Rng { state: seed }
     }
 
-    /// The generator of one case among those of a seed.
+    /// Returns the generator for one case of a seed.
     pub fn of_case(seed: u64, number: u64) -> Rng {
         let mut of_seed = Rng::new(seed);
         let start = of_seed.number();
@@ -25,7 +25,7 @@ impl Rng {
         mixed ^ mixed >> 31
     }
 
-    /// A number below the limit; the slight lean to small ones doesn't matter here.
+    /// Returns a number below the limit. Small numbers are slightly more likely, which doesn't matter here.
     pub fn below(&mut self, limit: u64) -> u64 {
         self.number() % limit
     }
@@ -57,7 +57,7 @@ impl Rng {
 mod tests {
     use super::Rng;
 
-    /// The first numbers that splitmix64's own program prints for seed 1234567.
+    /// The first numbers that the published program of splitmix64 prints for seed 1234567.
     #[test]
     fn numbers_are_splitmix64() {
         let mut rng = Rng::new(1_234_567);

@@ -1,9 +1,9 @@
-//! The calls of a case as data, the text that tests/reference/README.md gives them, and the state that the model runs
-//! them on.
+//! The calls of a case as data, their notation (see tests/reference/README.md), and the state on which the model runs
+//! them.
 
 use crate::model::{answer, Configuration, Domain, Entry, Key, Layout, Session, Signature, Totals, ENTRY_LIMIT};
 
-/// Bytes of each of README.md's two buffers.
+/// The size of each of the two buffers that README.md names.
 pub const BUFFER_SIZE: usize = 16_384;
 
 #[derive(Clone, Debug, PartialEq, Eq)]
@@ -15,10 +15,10 @@ pub enum Call {
     SetMemory { at: u64, count: u64, byte: u8 },
     SetWire { at: u64, count: u64, byte: u8 },
     Configure { memory: u64, configuration: Box<Configuration> },
-    Send { memory: u64, wire: u64, offset: u64, length: u64 },
-    Receive { memory: u64, wire: u64, offset: u64, length: u64 },
+    Send { memory: u64, wire: u64, offset: u64, data_length: u64 },
+    Receive { memory: u64, wire: u64, offset: u64, data_length: u64 },
     Check,
-    Open { memory: u64, offset: u64, length: u64 },
+    Open { memory: u64, offset: u64, data_length: u64 },
     Packet { memory: u64, at: u64, count: u64 },
     Finish,
     Abandon,
@@ -44,22 +44,22 @@ impl Call {
         }
     }
 
-    /// The numbers behind the letter.
+    /// The numbers after the letter.
     pub fn numbers(&self) -> Vec<u64> {
         match *self {
             Call::New | Call::Unseal | Call::Check | Call::Finish | Call::Abandon => vec![],
             Call::FillMemory { pattern } | Call::FillWire { pattern } => vec![pattern],
             Call::SetMemory { at, count, byte } | Call::SetWire { at, count, byte } => vec![at, count, byte.into()],
             Call::Configure { memory, ref configuration } => configure_numbers(memory, configuration),
-            Call::Send { memory, wire, offset, length } | Call::Receive { memory, wire, offset, length } => {
-                vec![memory, wire, offset, length]
+            Call::Send { memory, wire, offset, data_length } | Call::Receive { memory, wire, offset, data_length } => {
+                vec![memory, wire, offset, data_length]
             }
-            Call::Open { memory, offset, length } => vec![memory, offset, length],
+            Call::Open { memory, offset, data_length } => vec![memory, offset, data_length],
             Call::Packet { memory, at, count } => vec![memory, at, count],
         }
     }
 
-    /// The call of these numbers, if there is one.
+    /// Returns the call with this letter and these numbers, if there is one.
     pub fn from_numbers(letter: char, numbers: &[u64]) -> Option<Call> {
         Some(match (letter, numbers) {
             ('N', []) => Call::New,
@@ -69,10 +69,10 @@ impl Call {
             ('m', &[at, count, byte]) => Call::SetMemory { at, count, byte: byte.try_into().ok()? },
             ('w', &[at, count, byte]) => Call::SetWire { at, count, byte: byte.try_into().ok()? },
             ('C', numbers) => configure_from_numbers(numbers)?,
-            ('S', &[memory, wire, offset, length]) => Call::Send { memory, wire, offset, length },
-            ('R', &[memory, wire, offset, length]) => Call::Receive { memory, wire, offset, length },
+            ('S', &[memory, wire, offset, data_length]) => Call::Send { memory, wire, offset, data_length },
+            ('R', &[memory, wire, offset, data_length]) => Call::Receive { memory, wire, offset, data_length },
             ('K', []) => Call::Check,
-            ('O', &[memory, offset, length]) => Call::Open { memory, offset, length },
+            ('O', &[memory, offset, data_length]) => Call::Open { memory, offset, data_length },
             ('B', &[memory, at, count]) => Call::Packet { memory, at, count },
             ('F', []) => Call::Finish,
             ('A', []) => Call::Abandon,
@@ -85,7 +85,7 @@ impl Call {
         std::iter::once(self.letter().to_string()).chain(numbers).collect()
     }
 
-    /// "Lines ask for nothing outside the buffers".
+    /// Whether the call stays inside buffers of these sizes.
     pub fn fits(&self, memory_size: u64, wire_size: u64) -> bool {
         let within = |at: u64, count: u64, size: u64| at.checked_add(count).is_some_and(|end| end <= size);
         match *self {
@@ -125,7 +125,7 @@ fn domain_from_numbers(numbers: &[u64]) -> Option<Domain> {
     })
 }
 
-/// `m D D attribute check copy used repeat k E..`; the entries that aren't written are zeros.
+/// `m D D attribute check copy used repeat k E..`, without the zero entries at the end.
 fn configure_numbers(memory: u64, configuration: &Configuration) -> Vec<u64> {
     let (signature, layout) = (&configuration.signature, &configuration.layout);
     let listed = layout.entries.iter().rposition(|entry| *entry != Entry::default()).map_or(0, |last| last + 1);
@@ -165,7 +165,7 @@ fn configure_from_numbers(numbers: &[u64]) -> Option<Call> {
     Some(Call::Configure { memory: head[0], configuration })
 }
 
-/// Pattern s of README.md.
+/// Fills a buffer with pattern s of README.md.
 pub fn fill(buffer: &mut [u8], pattern: u64) {
     let mut x = pattern as u32;
     for byte in buffer {
@@ -179,15 +179,15 @@ pub fn digest(buffer: &[u8]) -> u64 {
     buffer.iter().fold(1, |d, &byte| (d * 257 + u64::from(byte)) % 4_294_967_291)
 }
 
-/// The state of README.md, run by the model.
+/// The state that README.md describes, with the model in place of the library.
 pub struct Machine {
     pub key: Key,
-    /// The key's record bears its seal: without it, it is none.
+    /// Whether the key has its seal. Without it the struct is no key.
     pub sealed: bool,
     pub session: Option<Session>,
     pub memory: Vec<u8>,
     pub wire: Vec<u8>,
-    /// The session's memory as open or the last accepted packet left it.
+    /// The session's memory as it was after open or the last accepted packet.
     left: Vec<u8>,
 }
 
@@ -202,7 +202,7 @@ impl Machine {
     }
 
     /// Demand 3 "supposes that the same memory is lent with every accepted packet, that nobody else writes it from open
-    /// on". A case in which that fails says nothing about the call.
+    /// on". Of a packet for which that is false, nothing is promised.
     pub fn keeps_premise(&self, call: &Call) -> bool {
         let (Call::Packet { memory, at, count }, Some(session)) = (call, &self.session) else {
             return true;
@@ -212,7 +212,7 @@ impl Machine {
         session.judge_packet(lent, bytes) != answer::DONE || self.left == lent
     }
 
-    /// Makes the call, and gives the numbers that are printed behind its letter: none where nothing is printed.
+    /// Makes the call, and returns the numbers that are printed after its letter; `None` if nothing is printed.
     pub fn run(&mut self, call: &Call) -> Option<Vec<u64>> {
         match *call {
             Call::New => (self.key, self.sealed, self.session) = (Key::default(), true, None),
@@ -226,7 +226,7 @@ impl Machine {
         None
     }
 
-    /// The calls of the interface.
+    /// Makes a call of the C API.
     fn answer(&mut self, call: &Call) -> Vec<u64> {
         match *call {
             Call::Configure { .. } | Call::Open { .. } if !self.sealed => vec![answer::NOT_A_KEY],
@@ -237,16 +237,16 @@ impl Machine {
             Call::Configure { memory, ref configuration } => {
                 vec![self.key.configure(&self.memory[..memory as usize], configuration)]
             }
-            Call::Send { memory, wire, offset, length } => {
+            Call::Send { memory, wire, offset, data_length } => {
                 let (lent, wire) = (&self.memory[..memory as usize], &mut self.wire[..wire as usize]);
-                three_numbers(self.key.send(lent, wire, offset, length))
+                three_numbers(self.key.send(lent, wire, offset, data_length))
             }
-            Call::Receive { memory, wire, offset, length } => {
+            Call::Receive { memory, wire, offset, data_length } => {
                 let (lent, wire) = (&mut self.memory[..memory as usize], &self.wire[..wire as usize]);
-                three_numbers(self.key.receive(lent, wire, offset, length))
+                three_numbers(self.key.receive(lent, wire, offset, data_length))
             }
             Call::Check => [&[answer::DONE], &self.key.check()[..]].concat(),
-            Call::Open { memory, offset, length } => vec![self.open(memory, offset, length)],
+            Call::Open { memory, offset, data_length } => vec![self.open(memory, offset, data_length)],
             Call::Packet { memory, at, count } => three_numbers(self.packet(memory, at, count)),
             Call::Finish => vec![self.end(Session::finish)],
             Call::Abandon => vec![self.end(|session| Ok(session.abandon()))],
@@ -254,9 +254,9 @@ impl Machine {
         }
     }
 
-    /// "if it answers 0 the session is kept": the key stays beside it, as a record that the caller may copy.
-    fn open(&mut self, memory: u64, offset: u64, length: u64) -> u64 {
-        match self.key.open(&self.memory[..memory as usize], offset, length) {
+    /// An accepted open keeps the session. The key stays too: it is a struct, and the caller may have copied it.
+    fn open(&mut self, memory: u64, offset: u64, data_length: u64) -> u64 {
+        match self.key.open(&self.memory[..memory as usize], offset, data_length) {
             Ok(session) => {
                 self.left = self.memory[..memory as usize].to_vec();
                 self.session = Some(session);
@@ -278,7 +278,7 @@ impl Machine {
         totals
     }
 
-    /// Finish and abandon: "if it answers 0 the key becomes the one given back", and the session has ended.
+    /// Finish and abandon: if accepted, the key becomes the returned one, and the session has ended.
     fn end(&mut self, call: impl Fn(&Session) -> Result<Key, u64>) -> u64 {
         match self.session.as_ref().map_or(Err(answer::NOT_A_SESSION), call) {
             Ok(key) => {
@@ -312,7 +312,7 @@ mod tests {
         }
     }
 
-    /// The generator is that of the C standard's example, which gives 16838, 5758 and 10113 from 1 on.
+    /// The generator is that of the C standard's example, which returns 16838, 5758 and 10113 for seed 1.
     #[test]
     fn a_pattern_is_that_of_the_c_standards_generator() {
         let mut buffer = [0; 3];
@@ -330,7 +330,7 @@ mod tests {
         assert_eq!(digest(&[0, 0, 0, 0]), 257u64.pow(4) - 4_294_967_291);
     }
 
-    /// A packet behind a written memory byte says nothing; behind a packet alone it does.
+    /// A packet after another packet keeps the premise. A packet after a written memory byte breaks it.
     #[test]
     fn a_written_memory_breaks_the_premise() {
         let layout = Layout { entries: [Entry { start: 0, count: 4, skip: 0 }; ENTRY_LIMIT], used: 1, repeat: 1 };
@@ -339,7 +339,7 @@ mod tests {
         let mut machine = Machine::new(8, 8);
         machine.run(&Call::FillWire { pattern: 1 });
         machine.run(&Call::Configure { memory: 8, configuration });
-        machine.run(&Call::Open { memory: 8, offset: 0, length: 4 });
+        machine.run(&Call::Open { memory: 8, offset: 0, data_length: 4 });
         machine.run(&packet);
         assert!(machine.keeps_premise(&packet));
         machine.run(&Call::SetMemory { at: 7, count: 1, byte: 0xFF });

@@ -1,9 +1,9 @@
-//! Makes a failing case small: drops calls and shrinks numbers while it goes on failing.
+//! Makes a failing case small: drops calls and lowers numbers as long as the case still fails.
 
 use crate::script::Call;
 use std::time::{Duration, Instant};
 
-/// A large case is left as small as it got by then.
+/// The time limit. A large case is left as small as it is by then.
 const TIME: Duration = Duration::from_secs(20);
 
 pub fn shrink(calls: &[Call], fails: impl Fn(&[Call]) -> bool) -> Vec<Call> {
@@ -12,7 +12,7 @@ pub fn shrink(calls: &[Call], fails: impl Fn(&[Call]) -> bool) -> Vec<Call> {
     shrinking.calls
 }
 
-/// Drops runs of items, long ones first, while the rest goes on failing.
+/// Drops runs of items, long runs first, as long as the rest still fails.
 pub fn drop_runs<T: Clone>(items: &[T], fails: impl Fn(&[T]) -> bool) -> Vec<T> {
     let mut items = items.to_vec();
     let mut run = items.len().next_power_of_two();
@@ -43,7 +43,7 @@ impl<F: Fn(&[Call]) -> bool> Shrinking<F> {
         Instant::now() < self.end && (self.fails)(calls)
     }
 
-    /// Takes the smaller case if it still fails.
+    /// Keeps the smaller case if it still fails.
     fn accept(&mut self, smaller: Vec<Call>) -> bool {
         let accepted = self.fails(&smaller);
         if accepted {
@@ -58,7 +58,7 @@ impl<F: Fn(&[Call]) -> bool> Shrinking<F> {
         self.calls.len() < before
     }
 
-    /// Numbers that belong together, as a memory's length in all calls: the same one wherever it stands.
+    /// Lowers equal numbers together, wherever they are: a memory's length, for example, is the same in all calls.
     fn shrink_together(&mut self) -> bool {
         let mut numbers: Vec<u64> = self.calls.iter().flat_map(Call::numbers).collect();
         numbers.sort_unstable();
@@ -83,7 +83,7 @@ impl<F: Fn(&[Call]) -> bool> Shrinking<F> {
         shrunk
     }
 
-    /// Each number alone, as far down as it goes.
+    /// Lowers one number as far as the case still fails.
     fn shrink_number(&mut self, at: usize, place: usize) -> bool {
         let mut shrunk = false;
         while let Some(&number) = self.calls[at].numbers().get(place) {
@@ -106,7 +106,7 @@ impl<F: Fn(&[Call]) -> bool> Shrinking<F> {
     }
 }
 
-/// 0 first, then ever smaller steps down.
+/// Returns smaller numbers to try: 0 first, then ever smaller steps down.
 fn smaller_numbers(number: u64) -> impl Iterator<Item = u64> {
     let candidates = [0, 1, number / 2, number.saturating_sub(8), number.saturating_sub(1)];
     candidates.into_iter().filter(move |&smaller| smaller < number)
@@ -128,9 +128,9 @@ mod tests {
     use super::*;
     use crate::cases::random;
 
-    /// A made-up fault: a send of 5 bytes or more with a check somewhere behind it.
+    /// A made-up fault: a send of 5 bytes or more with a check somewhere after it.
     fn fails(calls: &[Call]) -> bool {
-        let sends = |call: &Call| matches!(call, Call::Send { length: 5.., .. });
+        let sends = |call: &Call| matches!(call, Call::Send { data_length: 5.., .. });
         let sent = calls.iter().position(sends);
         sent.is_some_and(|at| calls[at..].contains(&Call::Check))
     }
@@ -141,7 +141,7 @@ mod tests {
         let failing: Vec<Vec<Call>> = cases.filter(|calls| fails(calls)).collect();
         assert!(failing.len() > 20);
         for calls in failing {
-            let least = [Call::Send { memory: 0, wire: 0, offset: 0, length: 5 }, Call::Check];
+            let least = [Call::Send { memory: 0, wire: 0, offset: 0, data_length: 5 }, Call::Check];
             assert_eq!(shrink(&calls, fails), least);
         }
     }

@@ -1,4 +1,4 @@
-//! Random cases. Most start from a good configuration and a valid input stream, and go wrong from there by choice, so
+//! Random cases. Most start from a valid configuration and a valid input stream, and only then do something wrong, so
 //! that few of them end at the first refusal.
 
 mod damage;
@@ -9,7 +9,7 @@ use super::{Buffers, Case, Direction, Plan};
 use crate::rng::Rng;
 use crate::script::{Call, Machine, BUFFER_SIZE};
 
-/// The case of this seed and number.
+/// Returns the case of this seed and number.
 pub fn case(seed: u64, number: u64) -> Case {
     let mut draft = Draft::new(Rng::of_case(seed, number));
     for _ in 0..draft.rng.between(1, 3) {
@@ -17,13 +17,13 @@ pub fn case(seed: u64, number: u64) -> Case {
             0..=39 => draft.transfer(),
             40..=79 => draft.packets(),
             80..=89 => draft.configurations(),
-            _ => draft.border_transfers(),
+            _ => draft.boundary_transfers(),
         }
     }
     Case { name: format!("random case {number} of seed {seed}"), buffers: Buffers::REPLAY, calls: draft.calls }
 }
 
-/// A case in the making, and the model's state after its calls.
+/// A case to which calls are still added, and the model's state after its calls.
 struct Draft {
     rng: Rng,
     machine: Machine,
@@ -40,7 +40,7 @@ impl Draft {
         draft
     }
 
-    /// Adds a call, unless it leaves the buffers or says nothing by demand 3's premise.
+    /// Adds a call, unless it needs bytes outside the buffers or breaks the premise of demand 3.
     fn make(&mut self, call: Call) {
         if self.machine.fits(&call) && self.machine.keeps_premise(&call) {
             self.machine.run(&call);
@@ -64,7 +64,7 @@ impl Draft {
         self.rng.pick(&[Direction::Send, Direction::Receive])
     }
 
-    /// A plan whose input lies ready, valid or damaged, and whose configuration the key has.
+    /// Makes a plan, puts its input in place, valid or damaged, and configures the key with it.
     fn prepared(&mut self, direction: Direction) -> Plan {
         let plan = plans::plan(&mut self.rng);
         self.make_all(plan.prepare(direction));
@@ -76,7 +76,7 @@ impl Draft {
         plan
     }
 
-    /// One or two whole transfers, the second after more damage or the other way.
+    /// Makes one or two whole transfers, the second after more damage and in any direction.
     fn transfer(&mut self) {
         let direction = self.direction();
         let plan = self.prepared(direction);
@@ -91,7 +91,7 @@ impl Draft {
         self.make_sometimes(80, Call::Check);
     }
 
-    /// A received transfer in packets with refused calls between them.
+    /// Makes a receive by packets, with refused calls between them.
     fn packets(&mut self) {
         let plan = self.prepared(Direction::Receive);
         let mut at = 0;
@@ -103,7 +103,7 @@ impl Draft {
             self.make_sometimes(4, Call::Finish);
             self.make(plan.packet(at, count));
             at += count;
-            // Bytes that were accepted are no longer looked at.
+            // Bytes that were accepted are not read again.
             let byte = self.rng.byte();
             self.make_sometimes(3, Call::SetWire { at: 0, count: at, byte });
             if self.rng.percent(3) {
@@ -113,7 +113,7 @@ impl Draft {
         self.end_session(&plan);
     }
 
-    /// A packet that is too long, or lent a memory of another length.
+    /// Makes a packet that is too long, or is lent a memory of another length, or both.
     fn refused_packet(&mut self, plan: &Plan) {
         let left = self.machine.session.as_ref().map_or(0, |session| session.bytes_to_come() as u64);
         let long = left + self.rng.pick(&[1, 1, 2, 8, 100]);
@@ -133,7 +133,7 @@ impl Draft {
         }
         let end = if self.rng.percent(75) { Call::Finish } else { Call::Abandon };
         self.make(end);
-        // Finish is refused where packets were left out: the session must not stay under way.
+        // Finish is refused if packets were left out. Then abandon ends the session.
         if self.machine.session.is_some() || self.rng.percent(10) {
             self.make(Call::Abandon);
         }
@@ -142,11 +142,11 @@ impl Draft {
         self.make_sometimes(80, Call::Check);
     }
 
-    /// Good, bad and boundary configurations in a row, and a transfer with the key that they leave.
+    /// Configures several times, with valid, wrong and boundary numbers, and makes a transfer with the resulting key.
     fn configurations(&mut self) {
         let plan = plans::plan(&mut self.rng);
         for _ in 0..self.rng.between(1, 6) {
-            let changed = plans::spoiled(&mut self.rng, &plan);
+            let changed = plans::damaged(&mut self.rng, &plan);
             self.make(changed.configure());
             self.make_sometimes(20, Plan { memory: changed.memory, ..plan.clone() }.send());
         }
@@ -155,12 +155,12 @@ impl Draft {
         self.make(Call::Check);
     }
 
-    /// Transfers and opens at and around the borders of their refusals.
-    fn border_transfers(&mut self) {
+    /// Makes transfers and opens at and around the boundaries of their refusals.
+    fn boundary_transfers(&mut self) {
         let direction = self.direction();
         let plan = self.prepared(direction);
         for _ in 0..self.rng.between(2, 8) {
-            let call = plans::border_call(&mut self.rng, &plan);
+            let call = plans::boundary_call(&mut self.rng, &plan);
             let opens = matches!(call, Call::Open { .. });
             self.make(call);
             if opens {
@@ -178,7 +178,7 @@ mod tests {
     use crate::model::answer;
     use std::collections::BTreeMap;
 
-    /// How often each answer is given by transfers, opens and packets, and each type by checks.
+    /// Counts how often the calls return each answer, and the checks each error type.
     fn outcomes(cases: u64) -> (BTreeMap<u64, usize>, [usize; 4]) {
         let (mut answers, mut types) = (BTreeMap::new(), [0; 4]);
         for number in 0..cases {

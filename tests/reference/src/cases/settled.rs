@@ -1,4 +1,4 @@
-//! Settled cases: the paper's own, the published vectors, and each rule and answer on both sides of its border.
+//! Settled cases: the rule book's own, the published vectors, and each rule and answer on both sides of its boundary.
 
 mod answers;
 mod packets;
@@ -6,30 +6,18 @@ mod paper;
 mod rules;
 
 use super::{entry, list_layout, Buffers, Case, Plan};
-use crate::model::{Configuration, Domain, Signature, CRC, REMAP, T10_DIF};
+use crate::model::{Configuration, Domain, Signature, REMAP};
+use crate::paper::case_a_domain as dif;
 use crate::script::Call;
 
-/// All settled cases that fit README.md's buffers.
+/// Returns all settled cases that fit the buffers of README.md.
 pub fn cases() -> Vec<Case> {
     [paper::cases(), answers::cases(), rules::cases(), packets::cases()].concat()
 }
 
-/// Those that take larger buffers.
+/// Returns the settled cases that need larger buffers.
 pub fn large_cases() -> Vec<Case> {
     vec![answers::large_memory(), rules::longest_stream()]
-}
-
-/// Case A's domain.
-fn dif() -> Domain {
-    Domain {
-        kind: T10_DIF,
-        block_size: 8,
-        guard_type: CRC,
-        reference_tag: 0xFFFF_FFFF,
-        seed: 0,
-        application_tag: 0x1234,
-        flags: REMAP,
-    }
 }
 
 fn unsigned() -> Domain {
@@ -40,11 +28,11 @@ fn signature(memory: Domain, wire: Domain) -> Signature {
     Signature { memory, wire, check_mask: 0xFF, ..Signature::default() }
 }
 
-/// A transfer of this length at offset 0, over one entry that just holds it.
-fn plan(signature: Signature, length: u64) -> Plan {
-    let memory = signature.memory.stream_length(length) as u64;
+/// Returns a transfer at offset 0, over one entry that is just long enough for it.
+fn plan(signature: Signature, data_length: u64) -> Plan {
+    let memory = signature.memory.stream_length(data_length) as u64;
     let layout = list_layout(&[entry(0, memory as u32, 0)]);
-    Plan { memory, configuration: Configuration { layout, signature }, offset: 0, length }
+    Plan { memory, configuration: Configuration { layout, signature }, offset: 0, data_length }
 }
 
 fn configure(memory: u64, configuration: Configuration) -> Call {
@@ -59,7 +47,7 @@ fn wire_bytes(at: u64, bytes: &[u8]) -> Vec<Call> {
     runs(bytes).into_iter().map(|(from, count, byte)| Call::SetWire { at: at + from, count, byte }).collect()
 }
 
-/// The runs of equal bytes: place, count and byte.
+/// Returns the runs of equal bytes: for each, its place, length and byte.
 fn runs(bytes: &[u8]) -> Vec<(u64, u64, u8)> {
     let mut runs: Vec<(u64, u64, u8)> = Vec::new();
     for (at, &byte) in bytes.iter().enumerate() {

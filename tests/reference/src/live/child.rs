@@ -1,4 +1,4 @@
-//! Work in a child process: a library that crashes or doesn't return takes that down and no more.
+//! Runs work in a child process, so that a library that crashes or doesn't return ends the child alone.
 #![allow(unsafe_code)]
 
 use std::ffi::c_long;
@@ -9,7 +9,7 @@ use std::process::{exit, ExitStatus};
 use std::ptr::null_mut;
 use std::time::Duration;
 
-/// The signal that a limit ends a child with, as Linux numbers it.
+/// The signal with which a time limit ends a child, as Linux numbers it.
 pub const ALARM: i32 = 14;
 
 extern "C" {
@@ -18,12 +18,12 @@ extern "C" {
     fn setitimer(which: i32, timer: *const [c_long; 4], old_timer: *mut [c_long; 4]) -> i32;
 }
 
-/// Runs the work in a child, hears each line that it says as it comes, and gives the child's end.
+/// Runs the work in a child, passes each line that the child says to `hear`, and returns the child's exit status.
 pub fn run(work: impl FnOnce(&mut PipeWriter), mut hear: impl FnMut(String)) -> ExitStatus {
-    let (reader, mut writer) = pipe().expect("a pipe can be had");
-    // SAFETY: this program has one thread, so that the child has all that the parent has.
+    let (reader, mut writer) = pipe().expect("a pipe can be made");
+    // SAFETY: this program has one thread, so the child is a whole copy of it.
     let child = unsafe { fork() };
-    assert!(child >= 0, "a process can be had");
+    assert!(child >= 0, "a process can be made");
     if child == 0 {
         drop(reader);
         let returned = catch_unwind(AssertUnwindSafe(|| work(&mut writer)));
@@ -34,21 +34,22 @@ pub fn run(work: impl FnOnce(&mut PipeWriter), mut hear: impl FnMut(String)) -> 
         hear(line.expect("a child says lines of text"));
     }
     let mut status = 0;
-    // SAFETY: the child is our own, and its status is written to a number of ours.
+    // SAFETY: the child is our own, and its status is written to a local number.
     let waited = unsafe { waitpid(child, &mut status, 0) };
     assert_eq!(waited, child, "a child can be waited for");
     ExitStatus::from_raw(status)
 }
 
-/// Says lines in one piece, so that the parent hears all of them or none.
+/// Says lines in one write, so that the parent hears all of them or none.
 pub fn say(lines: &str, to: &mut PipeWriter) {
     to.write_all(format!("{lines}\n").as_bytes()).expect("the parent hears");
 }
 
-/// Ends this process after so much time, unless another limit is set before.
+/// Ends this process after this time, unless another limit is set before.
 pub fn limit(time: Duration) {
     let (seconds, microseconds) = (time.as_secs() as c_long, c_long::from(time.subsec_micros()));
-    // SAFETY: which timer (of real time), its interval and its time, each in seconds and microseconds; nothing is written.
+    // SAFETY: timer 0 counts real time. The array has its interval and its time, each in seconds and microseconds, and
+    // nothing is written.
     unsafe { setitimer(0, &[0, 0, seconds, microseconds], null_mut()) };
 }
 

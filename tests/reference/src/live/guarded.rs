@@ -1,16 +1,16 @@
-//! A buffer with guard bytes on both sides, which no call may change, and its parts as a call is lent them.
+//! A buffer with guard bytes on both sides, which no call may change, and the slices of it that calls are lent.
 
 use std::ops::{Deref, DerefMut};
 
-/// An odd number, so that what is lent is not aligned.
+/// An odd number, so that the lent bytes are not aligned.
 const GUARD_BYTES: usize = 67;
 
 /// How a call is lent its bytes.
 #[derive(Clone, Copy)]
 pub enum Lending {
-    /// Where they lie, between guard bytes, which show a write beside them.
+    /// The bytes are lent in place, between guard bytes, which show a write outside.
     InPlace,
-    /// Copied to a heap block of their very size, so that valgrind sees a read or write beside them.
+    /// The bytes are copied to a heap block of exactly their size, so that valgrind sees a read or write outside.
     Exact,
 }
 
@@ -38,13 +38,13 @@ impl Guarded {
         &mut self.bytes[GUARD_BYTES..end]
     }
 
-    pub fn part_mut(&mut self, at: u64, count: u64) -> &mut [u8] {
+    pub fn slice_mut(&mut self, at: u64, count: u64) -> &mut [u8] {
         &mut self.all_mut()[at as usize..][..count as usize]
     }
 
     pub fn lend(&mut self, at: u64, count: u64) -> Lent<'_> {
         let lending = self.lending;
-        let own = self.part_mut(at, count);
+        let own = self.slice_mut(at, count);
         let block = match lending {
             Lending::InPlace => None,
             Lending::Exact => Some(Box::from(&*own)),
@@ -53,8 +53,8 @@ impl Guarded {
     }
 
     pub fn guards_are_intact(&self) -> bool {
-        let behind = self.bytes.len() - GUARD_BYTES;
-        (0..GUARD_BYTES).all(|at| self.bytes[at] == guard_byte(at) && self.bytes[behind + at] == guard_byte(at))
+        let after = self.bytes.len() - GUARD_BYTES;
+        (0..GUARD_BYTES).all(|at| self.bytes[at] == guard_byte(at) && self.bytes[after + at] == guard_byte(at))
     }
 }
 
@@ -78,7 +78,7 @@ impl DerefMut for Lent<'_> {
     }
 }
 
-/// A copy goes back, also where it was lent for reading alone: a write to it must show.
+/// A copy is written back, also if it was lent only for reading: a write to it must be seen.
 impl Drop for Lent<'_> {
     fn drop(&mut self) {
         if let Some(block) = &self.block {
@@ -87,7 +87,7 @@ impl Drop for Lent<'_> {
     }
 }
 
-/// Each another, so that a shifted copy shows too.
+/// Neighbouring guard bytes differ, so that a shifted copy is seen too.
 fn guard_byte(at: usize) -> u8 {
     (at * 37 + 11) as u8
 }
@@ -109,7 +109,7 @@ mod tests {
     }
 
     #[test]
-    fn what_is_written_to_a_lent_part_is_in_the_buffer() {
+    fn what_is_written_to_a_lent_slice_is_in_the_buffer() {
         for lending in [Lending::InPlace, Lending::Exact] {
             let mut buffer = Guarded::new(8, lending);
             buffer.lend(2, 3).fill(0xFF);

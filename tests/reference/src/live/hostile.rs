@@ -1,8 +1,8 @@
-//! Records that no call ever made: random bits, a right seal before random bits, and true records with a few bits
-//! changed. What such a call answers is the library's affair; that it returns, what it leaves alone and that it refuses
-//! a wrong seal is not.
+//! Hostile cases: calls with structs that no call ever made. They are random bits, random bits after a right seal, or
+//! valid structs with a few bits changed. Which answer such a call returns is left to the library. It must return, must
+//! change nothing that it may not write, and must refuse a wrong seal.
 
-mod spoiling;
+mod damage;
 
 use super::guarded::Lending;
 use super::library::{RawKey, RawSession, NO_SESSION};
@@ -14,15 +14,15 @@ use crate::model::answer;
 use crate::rng::Rng;
 use crate::script::{Call, BUFFER_SIZE};
 use crate::shrink::{drop_runs, shrink};
-use spoiling::{SpoiledWord, Spoiling, WRONG_SEALS};
+use damage::{ChangedWord, Damage, WRONG_SEALS};
 
 #[derive(Clone)]
 pub struct HostileCase {
     pub name: String,
-    /// The calls that make a true key and a true session.
+    /// The calls that make a valid key and a valid session.
     setup: Vec<Call>,
-    spoiling: Spoiling,
-    /// The calls that are made with the spoiled records.
+    damage: Damage,
+    /// The calls that are made with the damaged key and session.
     calls: Vec<Call>,
 }
 
@@ -33,10 +33,10 @@ impl HostileCase {
         let setup = setup(&mut rng, &plan);
         let calls = (0..rng.between(1, 6)).map(|_| some_call(&mut rng, &plan)).filter(fits).collect();
         let name = format!("hostile case {number} of seed {seed}");
-        HostileCase { name, setup, spoiling: Spoiling::Random(rng), calls }
+        HostileCase { name, setup, damage: Damage::Random(rng), calls }
     }
 
-    /// Each call with each wrong seal before an otherwise true record.
+    /// Returns cases that make each call with each wrong seal in an otherwise valid struct.
     pub fn wrong_seals() -> Vec<HostileCase> {
         let mut rng = Rng::new(1);
         let plan = plans::plan(&mut rng);
@@ -44,23 +44,23 @@ impl HostileCase {
         let case = |wrong| HostileCase {
             name: format!("wrong seals {wrong}"),
             setup: setup.clone(),
-            spoiling: Spoiling::WrongSeals(wrong),
+            damage: Damage::WrongSeals(wrong),
             calls: calls.clone(),
         };
         (0..WRONG_SEALS).map(case).collect()
     }
 
-    /// The number of calls made, or what one did that it must not.
+    /// Returns the number of calls made, or what one of them did that it must not.
     pub fn run(&self, lending: Lending) -> Result<usize, Fault> {
         if !self.setup.iter().chain(&self.calls).all(fits) {
             return Ok(0);
         }
-        let mut state = self.true_records(lending);
+        let mut state = self.valid_structs(lending);
         let seals = Seals::of(&state);
-        self.spoiling.spoil(&mut state);
+        self.damage.apply(&mut state);
         for call in &self.calls {
             let before = Before::of(&state);
-            let reply = state.run(call).expect("each of these calls answers");
+            let reply = state.run(call).expect("each of these calls returns numbers");
             judge(call, &seals, &before, &reply, &state).map_err(|words| Fault {
                 words: words.to_string(),
                 more: format!("answer of {}: {:?}", call.text(), reply.numbers),
@@ -69,8 +69,8 @@ impl HostileCase {
         Ok(self.calls.len())
     }
 
-    /// A configured key and an open session, for all but a case made small.
-    fn true_records(&self, lending: Lending) -> State {
+    /// Makes the calls of the setup. They leave a configured key and an open session, except in a case made small.
+    fn valid_structs(&self, lending: Lending) -> State {
         let mut state = State::new(Buffers::REPLAY, lending);
         for call in &self.setup {
             state.run(call);
@@ -78,16 +78,16 @@ impl HostileCase {
         state
     }
 
-    /// As small as it gets while it shows its fault. The words are drawn here, where the library must not fail: that it
-    /// doesn't fail in the setup is seen first.
+    /// Returns the case made as small as possible while it still shows its fault. The changed words are drawn here, in
+    /// the parent process, where the library must not fail. So it is first seen whether it fails in the setup.
     pub fn shrunk(&self, lending: Lending, shows: impl Fn(&HostileCase) -> bool) -> HostileCase {
         let bare = HostileCase { calls: Vec::new(), ..self.with_words(&[]) };
         let mut case =
-            if shows(&bare) { bare } else { self.with_words(&self.spoiling.drawn(self.true_records(lending))) };
+            if shows(&bare) { bare } else { self.with_words(&self.damage.drawn(self.valid_structs(lending))) };
         loop {
             let before = case.text();
             case.calls = shrink(&case.calls, |calls| shows(&HostileCase { calls: calls.to_vec(), ..case.clone() }));
-            case = case.with_words(&drop_runs(case.spoiling.words(), |words| shows(&case.with_words(words))));
+            case = case.with_words(&drop_runs(case.damage.words(), |words| shows(&case.with_words(words))));
             case.setup = shrink(&case.setup, |setup| shows(&HostileCase { setup: setup.to_vec(), ..case.clone() }));
             if case.text() == before {
                 return case;
@@ -95,12 +95,12 @@ impl HostileCase {
         }
     }
 
-    fn with_words(&self, words: &[SpoiledWord]) -> HostileCase {
-        HostileCase { spoiling: Spoiling::Words(words.to_vec()), ..self.clone() }
+    fn with_words(&self, words: &[ChangedWord]) -> HostileCase {
+        HostileCase { damage: Damage::Words(words.to_vec()), ..self.clone() }
     }
 
     pub fn text(&self) -> String {
-        let words = self.spoiling.words().iter().map(SpoiledWord::text);
+        let words = self.damage.words().iter().map(ChangedWord::text);
         let lines = self.setup.iter().map(Call::text).chain(words).chain(self.calls.iter().map(Call::text));
         lines.map(|line| line + "\n").collect()
     }
@@ -110,7 +110,7 @@ fn fits(call: &Call) -> bool {
     call.fits(BUFFER_SIZE as u64, BUFFER_SIZE as u64)
 }
 
-/// The calls for a configured key, perhaps with an error in its slot, and a session with some bytes accepted.
+/// Returns the calls for a configured key, perhaps with an error in its slot, and a session with some bytes accepted.
 fn setup(rng: &mut Rng, plan: &Plan) -> Vec<Call> {
     let mut calls = vec![Call::FillMemory { pattern: rng.number() }, Call::FillWire { pattern: rng.number() }];
     calls.extend(plan.prepare(Direction::Receive));
@@ -125,10 +125,10 @@ fn setup(rng: &mut Rng, plan: &Plan) -> Vec<Call> {
 fn some_call(rng: &mut Rng, plan: &Plan) -> Call {
     let stream = plan.wire_stream();
     match rng.below(12) {
-        0 => plans::spoiled(rng, plan).configure(),
+        0 => plans::damaged(rng, plan).configure(),
         1 => plan.send(),
         2 => plan.receive(),
-        3 | 4 => plans::border_call(rng, plan),
+        3 | 4 => plans::boundary_call(rng, plan),
         5 => Call::Check,
         6 => plan.open(),
         7 | 8 => plan.packet(rng.below(9), rng.below(stream + 1)),
@@ -144,10 +144,10 @@ fn every_call(plan: &Plan) -> Vec<Call> {
     on_key.into_iter().chain(on_session).collect()
 }
 
-/// The first words of true records.
+/// The seals, which are the first words, of a valid key and a valid session.
 struct Seals {
     key: u64,
-    /// None where the setup, made small, opens no session.
+    /// `None` if the setup was made so small that it opens no session.
     session: Option<u64>,
 }
 
@@ -158,7 +158,7 @@ impl Seals {
     }
 }
 
-/// What a call must leave alone.
+/// The state before a call.
 struct Before {
     key: RawKey,
     session: RawSession,
@@ -172,7 +172,7 @@ impl Before {
         Before { key, session, memory: memory.all().to_vec(), wire: wire.all().to_vec() }
     }
 
-    /// Whether the record that the call is handed begins as a true one does, as far as that is known.
+    /// Whether the key or session that is passed to the call has the right seal, as far as that is known.
     fn has_right_seal(&self, call: &Call, seals: &Seals) -> bool {
         if needs_session(call) {
             seals.session.is_none_or(|seal| self.session.words[0] == seal)
@@ -182,7 +182,7 @@ impl Before {
     }
 }
 
-/// What the call did that it must not, if anything.
+/// Returns what the call did that it must not, if anything.
 fn judge(call: &Call, seals: &Seals, before: &Before, reply: &Reply, state: &State) -> Result<(), &'static str> {
     let answer = reply.numbers[0];
     let refusal = if needs_session(call) { answer::NOT_A_SESSION } else { answer::NOT_A_KEY };
@@ -190,14 +190,14 @@ fn judge(call: &Call, seals: &Seals, before: &Before, reply: &Reply, state: &Sta
     let (writable_memory, writable_wire) = if answer == answer::DONE { writable(call) } else { (0, 0) };
     let (memory, wire) = (state.memory.all(), state.wire.all());
     let rules = [
-        (known, "the answer is none of the numbered ones"),
+        (known, "the answer is not one of the numbered answers"),
         (
             before.has_right_seal(call, seals) || answer == refusal,
-            "a record without the right seal was not refused as such",
+            "a struct without the right seal was not refused as such",
         ),
-        (answer == answer::DONE || reply.record_kept, "a refused call changed the record"),
-        (state.memory.guards_are_intact(), "bytes beside the memory changed"),
-        (state.wire.guards_are_intact(), "bytes beside the wire changed"),
+        (answer == answer::DONE || reply.struct_kept, "a refused call changed the struct"),
+        (state.memory.guards_are_intact(), "bytes outside the memory changed"),
+        (state.wire.guards_are_intact(), "bytes outside the wire changed"),
         (memory[writable_memory..] == before.memory[writable_memory..], "memory changed that must not"),
         (wire[writable_wire..] == before.wire[writable_wire..], "wire changed that must not"),
     ];
@@ -211,7 +211,7 @@ fn needs_session(call: &Call) -> bool {
     matches!(call, Call::Packet { .. } | Call::Finish | Call::Abandon)
 }
 
-/// How many bytes of memory and of wire an accepted call may write.
+/// Returns how many bytes of memory and of wire an accepted call may write.
 fn writable(call: &Call) -> (usize, usize) {
     match *call {
         Call::Send { wire, .. } => (0, wire as usize),
@@ -224,7 +224,7 @@ fn writable(call: &Call) -> (usize, usize) {
 mod tests {
     use super::*;
 
-    /// A made-up fault: a finish where the session's word 46 is spoiled.
+    /// A made-up fault: a finish when word 46 of the session is damaged.
     fn shows(case: &HostileCase) -> bool {
         case.text().contains("session word 46 is") && case.calls.contains(&Call::Finish)
     }

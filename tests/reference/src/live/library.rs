@@ -1,16 +1,17 @@
-//! The C interface, declared from garoalva.h alone, behind safe functions.
+//! The C API, declared from garoalva.h alone, and a safe function for each call.
 #![allow(unsafe_code)]
 
 use crate::model::{Configuration, Domain, Entry, Layout, Signature, ENTRY_LIMIT};
 
-/// A key is the library's own record. Its fields are no business of a caller, so it is so many words here, the first of
-/// them the seal; such a large record is passed in memory, and its size and alignment are all that matters there.
+/// A key. Its fields belong to the library, so here it is an array of 64-bit words, the first of which is the seal. A
+/// struct of this size is passed in memory, where only its size and alignment matter.
 #[repr(C)]
 #[derive(Clone, Copy, Debug, PartialEq, Eq)]
 pub struct RawKey {
     pub words: [u64; 45],
 }
 
+/// A session, likewise.
 #[repr(C)]
 #[derive(Clone, Copy, Debug, PartialEq, Eq)]
 pub struct RawSession {
@@ -18,8 +19,8 @@ pub struct RawSession {
 }
 
 impl RawSession {
-    /// What a refused finish or abandon gives in a key's place: the session's own, which by the header lies right behind
-    /// its seal, without a seal.
+    /// Returns what a refused finish or abandon returns as the key: the session's own key, with 0 as its seal. By the
+    /// header, the session's key follows the session's seal.
     pub fn unsealed_key(&self) -> RawKey {
         let mut key = RawKey { words: [0; 45] };
         key.words[1..].copy_from_slice(&self.words[2..46]);
@@ -27,7 +28,7 @@ impl RawSession {
     }
 }
 
-/// README.md's record of zeros.
+/// A struct of zeros, which is no session.
 pub const NO_SESSION: RawSession = RawSession { words: [0; 57] };
 
 #[repr(C)]
@@ -65,13 +66,13 @@ struct RawConfiguration {
 }
 
 #[repr(C)]
-pub struct Configured {
+pub struct ConfigureResult {
     pub key: RawKey,
     pub answer: u64,
 }
 
 #[repr(C)]
-pub struct Transferred {
+pub struct TransferResult {
     pub key: RawKey,
     pub answer: u64,
     pub taken: u64,
@@ -79,24 +80,36 @@ pub struct Transferred {
 }
 
 #[repr(C)]
-pub struct Checked {
+pub struct CheckResult {
     pub key: RawKey,
     pub answer: u64,
-    pub kind: u64,
-    pub actual: u64,
-    pub expected: u64,
-    pub offset: u64,
+    pub error: RawError,
 }
 
 #[repr(C)]
-pub struct Opened {
+pub struct RawError {
+    error_type: u32,
+    actual: u32,
+    expected: u32,
+    offset: u32,
+}
+
+impl RawError {
+    /// Type, actual, expected and offset.
+    pub fn numbers(&self) -> [u64; 4] {
+        [self.error_type, self.actual, self.expected, self.offset].map(u64::from)
+    }
+}
+
+#[repr(C)]
+pub struct OpenResult {
     pub key: RawKey,
     pub session: RawSession,
     pub answer: u64,
 }
 
 #[repr(C)]
-pub struct Packed {
+pub struct PacketResult {
     pub session: RawSession,
     pub answer: u64,
     pub taken: u64,
@@ -104,30 +117,37 @@ pub struct Packed {
 }
 
 #[repr(C)]
-pub struct Finished {
+pub struct FinishResult {
     pub key: RawKey,
     pub session: RawSession,
     pub answer: u64,
 }
 
 #[repr(C)]
-pub struct Abandoned {
+pub struct AbandonResult {
     pub key: RawKey,
     pub answer: u64,
 }
 
-// The header's own sizes.
+// The sizes that the header asserts.
 const _: () = {
     assert!(size_of::<RawDomain>() == 24 && size_of::<RawEntry>() == 16 && size_of::<RawConfiguration>() == 320);
     assert!(size_of::<RawKey>() == 360 && size_of::<RawSession>() == 456);
-    assert!(size_of::<Configured>() == 368 && size_of::<Transferred>() == 384 && size_of::<Checked>() == 400);
-    assert!(size_of::<Opened>() == 824 && size_of::<Packed>() == 480);
-    assert!(size_of::<Finished>() == 824 && size_of::<Abandoned>() == 368);
+    assert!(
+        size_of::<ConfigureResult>() == 368 && size_of::<TransferResult>() == 384 && size_of::<CheckResult>() == 384
+    );
+    assert!(size_of::<OpenResult>() == 824 && size_of::<PacketResult>() == 480);
+    assert!(size_of::<FinishResult>() == 824 && size_of::<AbandonResult>() == 368);
 };
 
 extern "C" {
     fn garoalva_fresh() -> RawKey;
-    fn garoalva_configure(key: RawKey, memory: *const u8, length: usize, with: RawConfiguration) -> Configured;
+    fn garoalva_configure(
+        key: RawKey,
+        memory: *const u8,
+        memory_length: usize,
+        configuration: RawConfiguration,
+    ) -> ConfigureResult;
     fn garoalva_send(
         key: RawKey,
         memory: *const u8,
@@ -136,7 +156,7 @@ extern "C" {
         wire_length: usize,
         offset: u64,
         data_length: u64,
-    ) -> Transferred;
+    ) -> TransferResult;
     fn garoalva_receive(
         key: RawKey,
         memory: *mut u8,
@@ -145,64 +165,65 @@ extern "C" {
         wire_length: usize,
         offset: u64,
         data_length: u64,
-    ) -> Transferred;
-    fn garoalva_check(key: RawKey) -> Checked;
-    fn garoalva_open(key: RawKey, memory: *const u8, length: usize, offset: u64, data_length: u64) -> Opened;
+    ) -> TransferResult;
+    fn garoalva_check(key: RawKey) -> CheckResult;
+    fn garoalva_open(key: RawKey, memory: *const u8, memory_length: usize, offset: u64, data_length: u64)
+        -> OpenResult;
     fn garoalva_packet(
         session: RawSession,
         memory: *mut u8,
         memory_length: usize,
         bytes: *const u8,
-        length: usize,
-    ) -> Packed;
-    fn garoalva_finish(session: RawSession) -> Finished;
-    fn garoalva_abandon(session: RawSession) -> Abandoned;
+        bytes_length: usize,
+    ) -> PacketResult;
+    fn garoalva_finish(session: RawSession) -> FinishResult;
+    fn garoalva_abandon(session: RawSession) -> AbandonResult;
 }
 
-// In every call below the pointers and lengths are those of live slices, of which Rust lets the written one overlap no
-// other, and the library keeps none of them. The records are numbers only, and any bits of them are good.
+// In each call below, pointers and lengths are those of borrowed slices, a written slice overlaps no other, and the
+// library keeps no pointer. The structs hold only numbers, so all their bit patterns are valid.
 
 pub fn fresh() -> RawKey {
     // SAFETY: nothing is lent.
     unsafe { garoalva_fresh() }
 }
 
-pub fn configure(key: RawKey, memory: &[u8], configuration: &Configuration) -> Configured {
+pub fn configure(key: RawKey, memory: &[u8], configuration: &Configuration) -> ConfigureResult {
     // SAFETY: as said above.
     unsafe { garoalva_configure(key, memory.as_ptr(), memory.len(), raw_configuration(configuration)) }
 }
 
-pub fn send(key: RawKey, memory: &[u8], wire: &mut [u8], offset: u64, length: u64) -> Transferred {
+pub fn send(key: RawKey, memory: &[u8], wire: &mut [u8], offset: u64, data_length: u64) -> TransferResult {
     // SAFETY: as said above.
-    unsafe { garoalva_send(key, memory.as_ptr(), memory.len(), wire.as_mut_ptr(), wire.len(), offset, length) }
+    unsafe { garoalva_send(key, memory.as_ptr(), memory.len(), wire.as_mut_ptr(), wire.len(), offset, data_length) }
 }
 
-pub fn receive(key: RawKey, memory: &mut [u8], wire: &[u8], offset: u64, length: u64) -> Transferred {
+pub fn receive(key: RawKey, memory: &mut [u8], wire: &[u8], offset: u64, data_length: u64) -> TransferResult {
     // SAFETY: as said above.
-    unsafe { garoalva_receive(key, memory.as_mut_ptr(), memory.len(), wire.as_ptr(), wire.len(), offset, length) }
+    unsafe { garoalva_receive(key, memory.as_mut_ptr(), memory.len(), wire.as_ptr(), wire.len(), offset, data_length) }
 }
 
-pub fn check(key: RawKey) -> Checked {
+pub fn check(key: RawKey) -> CheckResult {
     // SAFETY: nothing is lent.
     unsafe { garoalva_check(key) }
 }
 
-pub fn open(key: RawKey, memory: &[u8], offset: u64, length: u64) -> Opened {
+pub fn open(key: RawKey, memory: &[u8], offset: u64, data_length: u64) -> OpenResult {
     // SAFETY: as said above.
-    unsafe { garoalva_open(key, memory.as_ptr(), memory.len(), offset, length) }
+    unsafe { garoalva_open(key, memory.as_ptr(), memory.len(), offset, data_length) }
 }
 
-pub fn packet(session: RawSession, memory: &mut [u8], bytes: &[u8]) -> Packed {
+pub fn packet(session: RawSession, memory: &mut [u8], bytes: &[u8]) -> PacketResult {
     // SAFETY: as said above.
     unsafe { garoalva_packet(session, memory.as_mut_ptr(), memory.len(), bytes.as_ptr(), bytes.len()) }
 }
 
-pub fn finish(session: RawSession) -> Finished {
+pub fn finish(session: RawSession) -> FinishResult {
     // SAFETY: nothing is lent.
     unsafe { garoalva_finish(session) }
 }
 
-pub fn abandon(session: RawSession) -> Abandoned {
+pub fn abandon(session: RawSession) -> AbandonResult {
     // SAFETY: nothing is lent.
     unsafe { garoalva_abandon(session) }
 }
@@ -229,7 +250,7 @@ fn raw_configuration(configuration: &Configuration) -> RawConfiguration {
         attribute_flags,
         check_mask,
         copy_mask,
-        // Ignored by the header's word, and so not 0 here.
+        // The header says that this is ignored, so it is not 0 here.
         spare: 0xA55A,
     }
 }

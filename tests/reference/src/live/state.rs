@@ -1,4 +1,4 @@
-//! tests/reference/README.md's state, run by the library.
+//! The state that tests/reference/README.md describes, with the library's keys and sessions.
 
 use super::guarded::{Guarded, Lending};
 use super::library::{self, RawKey, RawSession, NO_SESSION};
@@ -13,11 +13,13 @@ pub struct State {
     pub wire: Guarded,
 }
 
-/// What a call printed, and whether the record that it was handed came back as it was, of a session its key too, without
-/// its seal.
+/// What a call returned.
 pub struct Reply {
+    /// The numbers that are printed.
     pub numbers: Vec<u64>,
-    pub record_kept: bool,
+    /// Whether the returned key or session is the one that was passed. Finish and abandon return the session's key too: it
+    /// must be the same but for its seal, which is 0.
+    pub struct_kept: bool,
 }
 
 impl State {
@@ -30,28 +32,28 @@ impl State {
         }
     }
 
-    /// Makes the call; no reply where nothing is printed.
+    /// Makes the call; returns `None` if nothing is printed.
     pub fn run(&mut self, call: &Call) -> Option<Reply> {
         match *call {
             Call::New => (self.key, self.session) = (library::fresh(), NO_SESSION),
             Call::Unseal => self.key.words[0] = 0,
             Call::FillMemory { pattern } => fill(self.memory.all_mut(), pattern),
             Call::FillWire { pattern } => fill(self.wire.all_mut(), pattern),
-            Call::SetMemory { at, count, byte } => self.memory.part_mut(at, count).fill(byte),
-            Call::SetWire { at, count, byte } => self.wire.part_mut(at, count).fill(byte),
+            Call::SetMemory { at, count, byte } => self.memory.slice_mut(at, count).fill(byte),
+            Call::SetWire { at, count, byte } => self.wire.slice_mut(at, count).fill(byte),
             _ => return Some(self.reply(call)),
         }
         None
     }
 
-    /// The calls of the interface.
+    /// Makes a call of the C API.
     fn reply(&mut self, call: &Call) -> Reply {
         match *call {
             Call::Configure { memory, ref configuration } => self.configure(memory, configuration),
-            Call::Send { memory, wire, offset, length } => self.send(memory, wire, offset, length),
-            Call::Receive { memory, wire, offset, length } => self.receive(memory, wire, offset, length),
+            Call::Send { memory, wire, offset, data_length } => self.send(memory, wire, offset, data_length),
+            Call::Receive { memory, wire, offset, data_length } => self.receive(memory, wire, offset, data_length),
             Call::Check => self.check(),
-            Call::Open { memory, offset, length } => self.open(memory, offset, length),
+            Call::Open { memory, offset, data_length } => self.open(memory, offset, data_length),
             Call::Packet { memory, at, count } => self.packet(memory, at, count),
             Call::Finish => self.finish(),
             Call::Abandon => self.abandon(),
@@ -59,16 +61,16 @@ impl State {
         }
     }
 
-    /// Goes on with the key that came back.
+    /// Keeps the key that a call returned.
     fn with_key(&mut self, key: RawKey, numbers: Vec<u64>) -> Reply {
         let given = std::mem::replace(&mut self.key, key);
-        Reply { numbers, record_kept: given == key }
+        Reply { numbers, struct_kept: given == key }
     }
 
-    /// Goes on with the session that came back.
+    /// Keeps the session that a call returned.
     fn with_session(&mut self, session: RawSession, numbers: Vec<u64>) -> Reply {
         let given = std::mem::replace(&mut self.session, session);
-        Reply { numbers, record_kept: given == session }
+        Reply { numbers, struct_kept: given == session }
     }
 
     fn configure(&mut self, memory: u64, configuration: &Configuration) -> Reply {
@@ -76,30 +78,31 @@ impl State {
         self.with_key(done.key, vec![done.answer])
     }
 
-    fn send(&mut self, memory: u64, wire: u64, offset: u64, length: u64) -> Reply {
-        let done = library::send(self.key, &self.memory.lend(0, memory), &mut self.wire.lend(0, wire), offset, length);
+    fn send(&mut self, memory: u64, wire: u64, offset: u64, data_length: u64) -> Reply {
+        let done =
+            library::send(self.key, &self.memory.lend(0, memory), &mut self.wire.lend(0, wire), offset, data_length);
         self.with_key(done.key, vec![done.answer, done.taken, done.written])
     }
 
-    fn receive(&mut self, memory: u64, wire: u64, offset: u64, length: u64) -> Reply {
+    fn receive(&mut self, memory: u64, wire: u64, offset: u64, data_length: u64) -> Reply {
         let done =
-            library::receive(self.key, &mut self.memory.lend(0, memory), &self.wire.lend(0, wire), offset, length);
+            library::receive(self.key, &mut self.memory.lend(0, memory), &self.wire.lend(0, wire), offset, data_length);
         self.with_key(done.key, vec![done.answer, done.taken, done.written])
     }
 
     fn check(&mut self) -> Reply {
         let done = library::check(self.key);
-        let numbers = vec![done.answer, done.kind, done.actual, done.expected, done.offset];
+        let numbers = [&[done.answer], &done.error.numbers()[..]].concat();
         self.with_key(done.key, numbers)
     }
 
-    /// An accepted open says nothing of its key: the caller's own stays.
-    fn open(&mut self, memory: u64, offset: u64, length: u64) -> Reply {
-        let done = library::open(self.key, &self.memory.lend(0, memory), offset, length);
+    /// The key that an accepted open returns is not used: the caller's own key stays.
+    fn open(&mut self, memory: u64, offset: u64, data_length: u64) -> Reply {
+        let done = library::open(self.key, &self.memory.lend(0, memory), offset, data_length);
         if done.answer == answer::DONE {
             self.session = done.session;
         }
-        Reply { numbers: vec![done.answer], record_kept: done.key == self.key }
+        Reply { numbers: vec![done.answer], struct_kept: done.key == self.key }
     }
 
     fn packet(&mut self, memory: u64, at: u64, count: u64) -> Reply {
@@ -107,7 +110,7 @@ impl State {
         self.with_session(done.session, vec![done.answer, done.taken, done.written])
     }
 
-    /// "if it answers 0 the key becomes the one given back and the session the record that finish gives back"
+    /// An accepted finish returns the key and a struct that is no session; both are kept.
     fn finish(&mut self) -> Reply {
         let done = library::finish(self.session);
         let key_kept = done.key == self.session.unsealed_key();
@@ -115,16 +118,16 @@ impl State {
             self.key = done.key;
         }
         let reply = self.with_session(done.session, vec![done.answer]);
-        Reply { record_kept: reply.record_kept && key_kept, ..reply }
+        Reply { struct_kept: reply.struct_kept && key_kept, ..reply }
     }
 
-    /// A refused abandon hands no session back: the caller's own stays.
+    /// A refused abandon returns no session: the caller's own stays.
     fn abandon(&mut self) -> Reply {
         let done = library::abandon(self.session);
-        let record_kept = done.key == self.session.unsealed_key();
+        let struct_kept = done.key == self.session.unsealed_key();
         if done.answer == answer::DONE {
             (self.key, self.session) = (done.key, NO_SESSION);
         }
-        Reply { numbers: vec![done.answer], record_kept }
+        Reply { numbers: vec![done.answer], struct_kept }
     }
 }

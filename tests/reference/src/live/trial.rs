@@ -1,4 +1,4 @@
-//! A case of either kind: run by the library, made small and written down.
+//! A case of either kind, compared or hostile: how it is run, made small and printed.
 
 use super::compared;
 use super::guarded::Lending;
@@ -8,7 +8,7 @@ use crate::script::Call;
 use crate::shrink::shrink;
 use std::time::Duration;
 
-/// What must not be: a line that also stands for the kind of fault, and lines with more about it.
+/// A fault: one line that says what kind it is, and lines with more about it.
 pub struct Fault {
     pub words: String,
     pub more: String,
@@ -21,7 +21,7 @@ pub enum Trial {
 }
 
 impl Trial {
-    /// The number of calls made, or what went wrong.
+    /// Returns the number of calls made, or what went wrong.
     pub fn run(&self, lending: Lending) -> Result<usize, Fault> {
         match self {
             Trial::Compared(case) => compared::run(case, lending),
@@ -29,7 +29,7 @@ impl Trial {
         }
     }
 
-    /// Far more time than it takes, also under valgrind and beside other work.
+    /// The time limit: far more than a case takes, also under valgrind and on a busy machine.
     pub fn limit(&self) -> Duration {
         match self {
             Trial::Compared(case) if case.buffers != Buffers::REPLAY => Duration::from_secs(600),
@@ -37,7 +37,7 @@ impl Trial {
         }
     }
 
-    /// As small as it gets while it shows its fault.
+    /// Returns the case made as small as possible while it still shows its fault.
     pub fn shrunk(&self, lending: Lending, shows: impl Fn(&Trial) -> bool) -> Trial {
         match self {
             Trial::Compared(case) => {

@@ -1,4 +1,4 @@
-//! What document 01 says of packets as a whole, tried on the model over random transfers.
+//! What the rule book says of packets as a whole, tested on the model with random transfers.
 
 use super::*;
 use crate::cases::random::plans;
@@ -27,7 +27,7 @@ fn scene(rng: &mut Rng) -> Scene {
 
 impl Scene {
     fn session(&self) -> Session {
-        let opened = self.key.open(&self.memory, self.plan.offset, self.plan.length);
+        let opened = self.key.open(&self.memory, self.plan.offset, self.plan.data_length);
         opened.expect("a plan is accepted")
     }
 }
@@ -47,13 +47,13 @@ fn packets_end_as_one_receive() {
             totals = session.packet(&mut by_packets, packet);
             rest = left;
         }
-        let received = scene.key.receive(&mut scene.memory, &scene.wire, scene.plan.offset, scene.plan.length);
+        let received = scene.key.receive(&mut scene.memory, &scene.wire, scene.plan.offset, scene.plan.data_length);
         assert_eq!((by_packets, totals), (scene.memory, received));
         assert_eq!(session.finish(), Ok(scene.key));
     }
 }
 
-/// Memory only ever grows towards that of the whole receive: "whatever the bytes still to come".
+/// After each byte, memory holds the first bytes of what the whole receive writes: "whatever the bytes still to come".
 #[test]
 fn memory_after_each_byte_is_a_part_of_the_whole() {
     let mut rng = Rng::new(4);
@@ -61,7 +61,7 @@ fn memory_after_each_byte_is_a_part_of_the_whole() {
         let scene = scene(&mut rng);
         let (mut session, mut memory, mut whole) = (scene.session(), scene.memory.clone(), scene.memory.clone());
         let mut key = scene.key;
-        let written = key.receive(&mut whole, &scene.wire, scene.plan.offset, scene.plan.length).written;
+        let written = key.receive(&mut whole, &scene.wire, scene.plan.offset, scene.plan.data_length).written;
         let places = scene.plan.configuration.layout.stream_places(scene.plan.offset, written as usize);
         for byte in scene.wire.chunks(1).take(100) {
             let totals = session.packet(&mut memory, byte);
@@ -74,7 +74,7 @@ fn memory_after_each_byte_is_a_part_of_the_whole() {
     }
 }
 
-/// "finish gives 13 exactly while there are any" bytes to come, and refused calls leave all as it was.
+/// "finish gives 13 exactly while there are any" bytes to come, and refused calls change nothing.
 #[test]
 fn refused_calls_change_nothing() {
     let mut rng = Rng::new(5);

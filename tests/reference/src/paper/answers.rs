@@ -1,10 +1,11 @@
-//! The table of numbered answers and what the slot keeps: the borders by hand, with the number that the table gives.
+//! The table of numbered answers on both sides of each boundary, and what the error slot keeps. The answers are written
+//! here by hand, as the table has them.
 
 use super::*;
 
 pub const PARTS: [fn(&mut Findings); 6] = [domains, signatures, layouts, transfers, packets, slot];
 
-/// Answers 1 and 2, by the wire domain.
+/// Answers 1 and 2, for the wire domain.
 fn domains(findings: &mut Findings) {
     let a = case_a_domain();
     let ignored = Domain { kind: 0, block_size: 12, guard_type: 9, seed: 1, application_tag: 0xFFFF, flags: 6, ..a };
@@ -26,7 +27,7 @@ fn domains(findings: &mut Findings) {
         ("flag 2 with tag 0xFFFE", Domain { flags: 2, application_tag: 0xFFFE, ..a }, 0),
     ];
     for (what, domain, answer) in table {
-        findings.hold(what, answer, configuration(signature(domain)).judge(8));
+        findings.compare(what, answer, configuration(signature(domain)).judge(8));
     }
 }
 
@@ -57,11 +58,11 @@ fn signatures(findings: &mut Findings) {
     ];
     for (memory, wire, attribute_flags, answer) in table {
         let signature = Signature { memory, wire, attribute_flags, ..Signature::default() };
-        findings.hold(&format!("{signature:?}"), answer, configuration(signature).judge(8));
+        findings.compare(&format!("{signature:?}"), answer, configuration(signature).judge(8));
     }
     let beyond = Configuration::default().judge(MEMORY_LIMIT + 1);
-    findings.hold("8 before all others", 8, beyond);
-    findings.hold("memory at its limit", 0, configuration(signature(a)).judge(MEMORY_LIMIT));
+    findings.compare("8 before all others", 8, beyond);
+    findings.compare("memory at its limit", 0, configuration(signature(a)).judge(MEMORY_LIMIT));
 }
 
 /// Entries as start, count and skip; the repeat count; the answer.
@@ -92,14 +93,15 @@ fn layouts(findings: &mut Findings) {
         let entries: Vec<Entry> = entries.iter().map(|&(start, count, skip)| Entry { start, count, skip }).collect();
         let layout = Layout { repeat, ..list_layout(&entries) };
         let configuration = Configuration { layout, ..Configuration::default() };
-        findings.hold(&format!("{repeat} times {entries:?}"), answer, configuration.judge(64));
+        findings.compare(&format!("{repeat} times {entries:?}"), answer, configuration.judge(64));
     }
     let seventeen = Layout { used: 17, ..list_layout(&[Entry { start: 0, count: 1, skip: 0 }; 16]) };
     let configuration = Configuration { layout: seventeen, ..Configuration::default() };
-    findings.hold("17 entries", 5, configuration.judge(64));
+    findings.compare("17 entries", 5, configuration.judge(64));
 }
 
-/// Answers 14, 8, 9, 10 and 11 in this order: memory, wire, offset and length over case A's key for 16 bytes.
+/// Answers 14, 8, 9, 10 and 11, in this order. A row has the memory length, wire length, offset, data length and answer
+/// of a transfer with case A's key for 16 bytes.
 fn transfers(findings: &mut Findings) {
     let table = [
         (16, 32, 0, 16, 0),
@@ -114,17 +116,17 @@ fn transfers(findings: &mut Findings) {
         (16, 31, 0, 16, 11),
         (16, 33, 0, 16, 0),
     ];
-    for (memory, wire, offset, length, answer) in table {
-        let what = format!("memory {memory}, wire {wire}, offset {offset}, length {length}");
+    for (memory, wire, offset, data_length, answer) in table {
+        let what = format!("memory {memory}, wire {wire}, offset {offset}, data length {data_length}");
         let (mut memory, mut wire) = (vec![0; memory], vec![0; wire]);
         let mut key = key(16, signature(case_a_domain()));
-        findings.hold(&what, answer, key.send(&memory, &mut wire, offset, length).answer);
-        findings.hold(&what, answer, key.receive(&mut memory, &wire, offset, length).answer);
-        let opened = key.open(&memory, offset, length).err().unwrap_or(0);
-        findings.hold(&what, if answer == 11 { 0 } else { answer }, opened);
+        findings.compare(&what, answer, key.send(&memory, &mut wire, offset, data_length).answer);
+        findings.compare(&what, answer, key.receive(&mut memory, &wire, offset, data_length).answer);
+        let opened = key.open(&memory, offset, data_length).err().unwrap_or(0);
+        findings.compare(&what, if answer == 11 { 0 } else { answer }, opened);
     }
     let fresh = Key::default().open(&[], u64::MAX, u64::MAX).err();
-    findings.hold("never configured", Some(14), fresh);
+    findings.compare("never configured", Some(14), fresh);
 }
 
 /// Answers 8 and 12 in this order, and 13.
@@ -135,30 +137,30 @@ fn packets(findings: &mut Findings) {
         let totals = session.packet(&mut vec![0; memory], bytes);
         (totals.answer, totals.taken, totals.written, session.finish().err())
     };
-    findings.hold("packet too long, wrong memory", (8, 0, 0, Some(13)), packet(15, &[0; 33]));
-    findings.hold("packet too long", (12, 0, 0, Some(13)), packet(16, &[0; 33]));
-    findings.hold("all but one byte", (0, 31, 16, Some(13)), packet(16, &[0; 31]));
-    findings.hold("refused after that", (12, 0, 0, Some(13)), packet(16, &[0; 2]));
-    findings.hold("the last byte", (0, 32, 16, None), packet(16, &[0]));
-    findings.hold("one more", (12, 0, 0, None), packet(16, &[0]));
-    findings.hold("an empty one", (0, 32, 16, None), packet(16, &[]));
+    findings.compare("packet too long, wrong memory", (8, 0, 0, Some(13)), packet(15, &[0; 33]));
+    findings.compare("packet too long", (12, 0, 0, Some(13)), packet(16, &[0; 33]));
+    findings.compare("all but one byte", (0, 31, 16, Some(13)), packet(16, &[0; 31]));
+    findings.compare("refused after that", (12, 0, 0, Some(13)), packet(16, &[0; 2]));
+    findings.compare("the last byte", (0, 32, 16, None), packet(16, &[0]));
+    findings.compare("one more", (12, 0, 0, None), packet(16, &[0]));
+    findings.compare("an empty one", (0, 32, 16, None), packet(16, &[]));
 }
 
 /// "the first bad block's first bad field, in the order guard, application, reference", kept until it is checked.
 fn slot(findings: &mut Findings) {
     let mut wire = CASE_A_WIRE;
     wire[24..].fill(0xBA);
-    findings.hold("guard first", [1, 0, 0xBABA, 16], check_of(&wire, signature(case_a_domain())));
+    findings.compare("guard first", [1, 0, 0xBABA, 16], check_of(&wire, signature(case_a_domain())));
     let tags = Signature { check_mask: 0x3F, ..signature(case_a_domain()) };
-    findings.hold("then application", [3, 0x1234, 0xBABA, 16], check_of(&wire, tags));
+    findings.compare("then application", [3, 0x1234, 0xBABA, 16], check_of(&wire, tags));
     wire[15] = 0xFE;
     let earlier = [2, 0xFFFF_FFFF, 0xFFFF_FFFE, 0];
-    findings.hold("an earlier block first", earlier, check_of(&wire, signature(case_a_domain())));
+    findings.compare("an earlier block first", earlier, check_of(&wire, signature(case_a_domain())));
     let mut key = key(16, signature(case_a_domain()));
     key.receive(&mut [0; 16], &wire, 0, 16);
     wire[0] = 0x77;
     key.receive(&mut [0; 16], &wire, 0, 16);
     key.configure(&[0; 8], &configuration(signature(case_a_domain())));
-    findings.hold("kept through a transfer and configure", earlier, key.check());
-    findings.hold("emptied by check", [0; 4], key.check());
+    findings.compare("kept through a transfer and configure", earlier, key.check());
+    findings.compare("emptied by check", [0; 4], key.check());
 }

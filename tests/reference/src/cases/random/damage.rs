@@ -6,28 +6,28 @@ use crate::rng::Rng;
 use crate::script::Call;
 use std::ops::Range;
 
-/// Calls that spoil, escape or half-escape one to four places of the input.
+/// Returns calls that damage one to four places of the input, or make their field an escape, in full or in part.
 pub fn damage(rng: &mut Rng, plan: &Plan, direction: Direction) -> Vec<Call> {
     let size = plan.block_size().unwrap_or(1);
-    if plan.length < size as u64 {
+    if plan.data_length < size as u64 {
         return Vec::new();
     }
     let mut calls = Vec::new();
     for _ in 0..rng.pick(&[1, 1, 1, 2, 2, 3, 4]) {
-        let block = rng.below(plan.length / size as u64);
+        let block = rng.below(plan.data_length / size as u64);
         let changes = if plan.input_domain(direction).signed() {
             block_damage(rng, size)
         } else {
             vec![(rng.below(size as u64), rng.byte())]
         };
-        let unit = plan.input_stream(direction) / (plan.length / size as u64);
+        let unit = plan.input_stream(direction) / (plan.data_length / size as u64);
         let set = |(at, byte): (u64, u8)| plan.set_input(direction, block * unit + at, byte);
         calls.extend(changes.into_iter().map(set));
     }
     calls
 }
 
-/// Changed bytes of one block with its field: place in the unit, and byte.
+/// Returns changed bytes of one block with its field: for each, the place in the unit and the byte.
 fn block_damage(rng: &mut Rng, size: usize) -> Vec<(u64, u8)> {
     let all_ones = |field: Range<usize>| field.map(|at| (at, 0xFF)).collect::<Vec<_>>();
     let escape = all_ones(APPLICATION);

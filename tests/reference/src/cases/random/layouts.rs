@@ -1,10 +1,11 @@
-//! Good layouts: list and repeated, of at least a given total, with pieces in any order and gaps between some.
+//! Valid layouts, of at least a given total. They are lists or have repeats, their pieces lie in any order, and there are
+//! gaps between some.
 
 use crate::cases::{entry, list_layout, repeated_layout};
 use crate::model::{Entry, Layout, ENTRY_LIMIT, PIECE_LIMIT};
 use crate::rng::Rng;
 
-/// A layout of at least `total` bytes, and the memory that it needs.
+/// Returns a layout of at least `total` bytes, and the length of the memory that it needs.
 pub fn layout(rng: &mut Rng, total: u64) -> (Layout, u64) {
     let total = total.max(1);
     match rng.below(10) {
@@ -27,51 +28,52 @@ fn entry_count(rng: &mut Rng, most: u64) -> u64 {
     wanted.min(most)
 }
 
-/// Cuts a number into this many parts of at least 1.
-fn parts(rng: &mut Rng, total: u64, count: u64) -> Vec<u64> {
+/// Cuts a number into `count` shares of at least 1.
+fn shares(rng: &mut Rng, total: u64, count: u64) -> Vec<u64> {
     let mut left = total;
-    let mut parts = Vec::new();
+    let mut shares = Vec::new();
     for following in (1..count).rev() {
-        let part = rng.between(1, (left - following).min(2 * left / (following + 1)).max(1));
-        parts.push(part);
-        left -= part;
+        let share = rng.between(1, (left - following).min(2 * left / (following + 1)).max(1));
+        shares.push(share);
+        left -= share;
     }
-    parts.push(left);
-    parts
+    shares.push(left);
+    shares
 }
 
-/// Pieces one behind the other with gaps, taken in any order. A list layout's skips don't matter.
+/// Makes a list layout: pieces with gaps between them, in any order. The skips of a list layout don't matter.
 fn list(rng: &mut Rng, total: u64) -> (Layout, u64) {
     let count = entry_count(rng, total);
     let mut at = gap(rng);
     let mut entries = Vec::new();
-    for part in parts(rng, total, count) {
+    for bytes in shares(rng, total, count) {
         let skip = if rng.percent(20) { rng.number() as u32 } else { 0 };
-        entries.push(entry(at, part as u32, skip));
-        at += part + gap(rng);
+        entries.push(entry(at, bytes as u32, skip));
+        at += bytes + gap(rng);
     }
     let end = entries.iter().map(|entry: &Entry| entry.start + u64::from(entry.count)).max();
     rng.shuffle(&mut entries);
     (list_layout(&entries), end.unwrap_or(0))
 }
 
-/// How often a layout is repeated: mostly a few times, at most so that a repeat has a byte for each entry.
+/// Returns how often a layout is repeated: mostly a few times, and never so often that a repeat lacks a byte for an
+/// entry.
 fn repeat_count(rng: &mut Rng, total: u64, entries: u64) -> u64 {
     let most = (total / entries).min(PIECE_LIMIT / entries).max(1);
     let wanted = if rng.percent(10) { rng.between(1, most) } else { rng.between(1, 8) };
     wanted.min(most)
 }
 
-/// All entries in one period, which is repeated.
+/// Makes a layout whose entries lie in one period of memory, which is repeated.
 fn woven(rng: &mut Rng, total: u64) -> (Layout, u64) {
     let count = entry_count(rng, total.min(5));
     let repeat = repeat_count(rng, total, count);
     let mut at = 0;
     let mut entries = Vec::new();
-    for part in parts(rng, total.div_ceil(repeat).max(count), count) {
+    for bytes in shares(rng, total.div_ceil(repeat).max(count), count) {
         at += gap(rng);
-        entries.push(entry(at, part as u32, 0));
-        at += part;
+        entries.push(entry(at, bytes as u32, 0));
+        at += bytes;
     }
     let period = at + gap(rng);
     for entry in &mut entries {
@@ -81,17 +83,17 @@ fn woven(rng: &mut Rng, total: u64) -> (Layout, u64) {
     (repeated_layout(&entries, repeat as u32), (repeat - 1) * period + at)
 }
 
-/// Each entry's repeats in a region of their own.
+/// Makes a layout in which each entry's repeats have a region of their own.
 fn side_by_side(rng: &mut Rng, total: u64) -> (Layout, u64) {
     let count = entry_count(rng, total.min(5));
     let repeat = repeat_count(rng, total, count);
     let mut at = 0;
     let mut end = 0;
     let mut entries = Vec::new();
-    for part in parts(rng, total.div_ceil(repeat).max(count), count) {
+    for bytes in shares(rng, total.div_ceil(repeat).max(count), count) {
         let skip = gap(rng);
-        entries.push(entry(at, part as u32, skip as u32));
-        end = at + repeat * (part + skip) - skip;
+        entries.push(entry(at, bytes as u32, skip as u32));
+        end = at + repeat * (bytes + skip) - skip;
         at = end + gap(rng);
     }
     rng.shuffle(&mut entries);

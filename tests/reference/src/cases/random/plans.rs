@@ -1,4 +1,4 @@
-//! Random transfers: good ones, configurations with something wrong, calls at the borders, and cut lists.
+//! Random transfers: valid ones, configurations with something wrong, calls at boundaries, and the cuts of packets.
 
 use super::{layouts, Plan};
 use crate::model::{
@@ -7,7 +7,7 @@ use crate::model::{
 use crate::rng::Rng;
 use crate::script::{Call, BUFFER_SIZE};
 
-/// A transfer that is accepted and fits the buffers.
+/// Returns a transfer that is accepted and fits the buffers.
 pub fn plan(rng: &mut Rng) -> Plan {
     loop {
         let plan = any_plan(rng);
@@ -26,13 +26,13 @@ fn any_plan(rng: &mut Rng) -> Plan {
         _ => rng.between(1, 2),
     };
     let signed = signature.memory.signed() || signature.wire.signed();
-    let length = if signed { blocks * u64::from(block_size) } else { rng.below(200) };
-    let stream = signature.memory.stream_length(length) as u64;
+    let data_length = if signed { blocks * u64::from(block_size) } else { rng.below(200) };
+    let stream = signature.memory.stream_length(data_length) as u64;
     let offset = if rng.percent(50) { 0 } else { rng.below(30) };
     let slack = if rng.percent(50) { 0 } else { rng.below(30) };
     let (layout, needed) = layouts::layout(rng, offset + stream + slack);
     let memory = needed + if rng.percent(50) { 0 } else { rng.below(20) };
-    Plan { memory, configuration: Configuration { layout, signature }, offset, length }
+    Plan { memory, configuration: Configuration { layout, signature }, offset, data_length }
 }
 
 fn block_size(rng: &mut Rng) -> u32 {
@@ -68,7 +68,7 @@ fn mask(rng: &mut Rng, usual: u8) -> u8 {
     }
 }
 
-/// A good T10-DIF domain.
+/// Returns a valid T10-DIF domain.
 fn domain(rng: &mut Rng, block_size: u32) -> Domain {
     let flags = rng.pick(&[0, 1, 1, 2, 3, 3, 4, 5, 5]);
     let escapes = flags & (APPLICATION_ESCAPE | BOTH_ESCAPE) != 0;
@@ -90,7 +90,7 @@ fn reference_tag(rng: &mut Rng) -> u32 {
     rng.pick(&[0, 1, 0xFFFF_FFFF, 0xFFFF_FFFE, 0xFFFF_FFFC, 0x00FF_FFFF, random])
 }
 
-/// A domain like another but for one number, or in none.
+/// Returns a domain that differs from another in one number at most.
 fn related(rng: &mut Rng, domain: &Domain) -> Domain {
     let mut other = *domain;
     match rng.below(8) {
@@ -105,7 +105,7 @@ fn related(rng: &mut Rng, domain: &Domain) -> Domain {
     other
 }
 
-/// A domain of kind 0, whose other numbers are anything.
+/// Returns a domain of kind 0, whose other numbers may be anything.
 fn ignored(rng: &mut Rng) -> Domain {
     if rng.percent(50) {
         return Domain::default();
@@ -115,20 +115,20 @@ fn ignored(rng: &mut Rng) -> Domain {
     Domain { kind: 0, flags: rng.pick(&[2, 6, 99]), application_tag: 0xFFFF, seed: 1, ..noise }
 }
 
-/// The plan with one to three numbers of its configuration changed, mostly for the worse.
-pub fn spoiled(rng: &mut Rng, plan: &Plan) -> Plan {
-    let mut spoiled = plan.clone();
+/// Returns the plan with up to three numbers of its configuration changed, mostly to wrong ones.
+pub fn damaged(rng: &mut Rng, plan: &Plan) -> Plan {
+    let mut damaged = plan.clone();
     for _ in 0..rng.pick(&[0, 1, 1, 1, 1, 2, 3]) {
         if rng.percent(50) {
-            spoil_signature(rng, &mut spoiled.configuration.signature);
+            damage_signature(rng, &mut damaged.configuration.signature);
         } else {
-            spoil_layout(rng, &mut spoiled);
+            damage_layout(rng, &mut damaged);
         }
     }
-    spoiled
+    damaged
 }
 
-fn spoil_signature(rng: &mut Rng, signature: &mut Signature) {
+fn damage_signature(rng: &mut Rng, signature: &mut Signature) {
     if rng.percent(15) {
         signature.attribute_flags = rng.pick(&[0, 1, 1, 2, 0xFFFF_FFFF]);
         return;
@@ -144,7 +144,7 @@ fn spoil_signature(rng: &mut Rng, signature: &mut Signature) {
     }
 }
 
-fn spoil_layout(rng: &mut Rng, plan: &mut Plan) {
+fn damage_layout(rng: &mut Rng, plan: &mut Plan) {
     let layout = &mut plan.configuration.layout;
     let chosen = rng.below(layout.entries.len().min(layout.used as usize + 1) as u64) as usize;
     match rng.below(6) {
@@ -154,11 +154,11 @@ fn spoil_layout(rng: &mut Rng, plan: &mut Plan) {
                 rng.pick(&[0, 1, 2, 64, 1_024, 1_025, layout.repeat.saturating_add(1), 0x1000_0000, 0xFFFF_FFFF])
         }
         2 => plan.memory = rng.pick(&[0, plan.memory.saturating_sub(1), plan.memory + 1, BUFFER_SIZE as u64]),
-        _ => spoil_entry(rng, &mut layout.entries[chosen]),
+        _ => damage_entry(rng, &mut layout.entries[chosen]),
     }
 }
 
-fn spoil_entry(rng: &mut Rng, entry: &mut Entry) {
+fn damage_entry(rng: &mut Rng, entry: &mut Entry) {
     let near = [entry.start.saturating_sub(1), entry.start.saturating_add(1), 0];
     let far = [u64::MAX, u64::MAX - u64::from(entry.count), 1 << 32, 1 << 63];
     match rng.below(6) {
@@ -170,32 +170,32 @@ fn spoil_entry(rng: &mut Rng, entry: &mut Entry) {
     }
 }
 
-/// A transfer or open with one or two numbers at or near a border.
-pub fn border_call(rng: &mut Rng, plan: &Plan) -> Call {
+/// Returns a transfer or open with one or two numbers at or near a boundary.
+pub fn boundary_call(rng: &mut Rng, plan: &Plan) -> Call {
     let (mut memory, mut wire) = (plan.memory, plan.wire_stream());
-    let (mut offset, mut length) = (plan.offset, plan.length);
+    let (mut offset, mut data_length) = (plan.offset, plan.data_length);
     for _ in 0..rng.pick(&[1, 1, 1, 2]) {
         match rng.below(6) {
             0 => memory = rng.pick(&[0, memory.saturating_sub(1), memory + 1]),
             1 => wire = rng.pick(&[0, wire.saturating_sub(1), wire + 1, wire + 9]),
-            2 | 3 => offset = border_offset(rng, plan),
-            _ => length = border_length(rng, plan),
+            2 | 3 => offset = boundary_offset(rng, plan),
+            _ => data_length = boundary_data_length(rng, plan),
         }
     }
     match rng.below(3) {
-        0 => Call::Send { memory, wire, offset, length },
-        1 => Call::Receive { memory, wire, offset, length },
-        _ => Call::Open { memory, offset, length },
+        0 => Call::Send { memory, wire, offset, data_length },
+        1 => Call::Receive { memory, wire, offset, data_length },
+        _ => Call::Open { memory, offset, data_length },
     }
 }
 
-fn border_offset(rng: &mut Rng, plan: &Plan) -> u64 {
+fn boundary_offset(rng: &mut Rng, plan: &Plan) -> u64 {
     let total = plan.configuration.layout.total() as u64;
-    let last = total.saturating_sub(plan.signature().memory.stream_length(plan.length) as u64);
-    rng.pick(&[0, last, last + 1, total, total + 1, u64::MAX, u64::MAX - 7, u64::MAX - plan.length])
+    let last = total.saturating_sub(plan.signature().memory.stream_length(plan.data_length) as u64);
+    rng.pick(&[0, last, last + 1, total, total + 1, u64::MAX, u64::MAX - 7, u64::MAX - plan.data_length])
 }
 
-fn border_length(rng: &mut Rng, plan: &Plan) -> u64 {
+fn boundary_data_length(rng: &mut Rng, plan: &Plan) -> u64 {
     let size = plan.block_size().unwrap_or(1) as u64;
     let unit = size + 8;
     let total = plan.configuration.layout.total() as u64;
@@ -203,10 +203,10 @@ fn border_length(rng: &mut Rng, plan: &Plan) -> u64 {
     let random = rng.number();
     rng.pick(&[
         0,
-        plan.length.saturating_sub(1),
-        plan.length + 1,
-        plan.length.saturating_sub(size),
-        plan.length + size,
+        plan.data_length.saturating_sub(1),
+        plan.data_length + 1,
+        plan.data_length.saturating_sub(size),
+        plan.data_length + size,
         total / size * size,
         total / unit * size,
         wrapping,
@@ -219,18 +219,18 @@ fn border_length(rng: &mut Rng, plan: &Plan) -> u64 {
     ])
 }
 
-/// The lengths of the packets that the wire stream comes in.
+/// Returns the lengths of the packets in which the wire stream arrives.
 pub fn packets(rng: &mut Rng, plan: &Plan) -> Vec<u64> {
     let stream = plan.wire_stream();
     let mut cuts = match rng.below(7) {
         0 => vec![],
         1 if stream <= 100 => (1..stream).collect(),
-        2 | 3 => border_cuts(rng, plan),
+        2 | 3 => boundary_cuts(rng, plan),
         4 => (0..rng.between(1, 3)).map(|_| rng.below(stream + 1)).collect(),
         _ => (0..rng.below(8)).map(|_| rng.below(stream + 1)).collect(),
     };
     if rng.percent(30) {
-        // A cut that is there already makes an empty packet.
+        // The same cut twice makes an empty packet.
         let again = if cuts.is_empty() { stream } else { rng.pick(&cuts) };
         cuts.push(again);
     }
@@ -240,15 +240,15 @@ pub fn packets(rng: &mut Rng, plan: &Plan) -> Vec<u64> {
     starts.iter().zip(&cuts).map(|(start, end)| end - start).collect()
 }
 
-/// Cuts at and around the ends of blocks and of the parts of fields.
-fn border_cuts(rng: &mut Rng, plan: &Plan) -> Vec<u64> {
+/// Returns cuts at and around the ends of blocks, guards, tags and fields.
+fn boundary_cuts(rng: &mut Rng, plan: &Plan) -> Vec<u64> {
     let size = plan.block_size().unwrap_or(16) as u64;
     let stream = plan.wire_stream();
     let unit = if plan.signature().wire.signed() { size + 8 } else { size };
     let mut cuts = Vec::new();
-    for block in 0..plan.length / size {
-        for border in [0, size, size + 2, size + 4, unit] {
-            let around = (block * unit + border + 1).saturating_sub(rng.below(3));
+    for block in 0..plan.data_length / size {
+        for end in [0, size, size + 2, size + 4, unit] {
+            let around = (block * unit + end + 1).saturating_sub(rng.below(3));
             if rng.percent(40) && around <= stream {
                 cuts.push(around);
             }

@@ -1,4 +1,5 @@
-//! Every refusal of configure, of the transfers and of open, with its neighbours, and the order in which they come.
+//! Every refusal of configure, of the transfers and of open, with numbers on both sides of its boundary, and the order in
+//! which refusals are tested.
 
 use super::*;
 use crate::cases::repeated_layout;
@@ -25,13 +26,13 @@ fn configure_cases() -> Vec<Case> {
     ]
 }
 
-/// Configures with each signature in turn, and a transfer that shows which one the key was left with.
+/// Configures with each signature in turn, and makes a transfer that shows which of them the key has in the end.
 fn signatures(name: &str, signatures: impl IntoIterator<Item = Signature>) -> Case {
     let layout = list_layout(&[entry(0, 0x2000, 0)]);
     let configured = signatures.into_iter().map(|signature| configure(0x2000, Configuration { layout, signature }));
     Case::named(name)
         .then_all(configured)
-        .then_all([Call::Send { memory: 0x2000, wire: 0x3000, offset: 0, length: 0x1040 }, Call::Check])
+        .then_all([Call::Send { memory: 0x2000, wire: 0x3000, offset: 0, data_length: 0x1040 }, Call::Check])
 }
 
 fn domains() -> Vec<Domain> {
@@ -50,7 +51,7 @@ fn attribute_flags() -> Vec<Signature> {
     [0, 1, 2, 3, 0x100, 0xFFFF_FFFF].map(with).to_vec()
 }
 
-/// Tag 0xFFFF and its neighbour under every good set of flags, on each side alone and on both.
+/// Application tags 0xFFFF and 0xFFFE with all valid flags, on the memory side, on the wire side, and on unsigned sides.
 fn escape_tags() -> Vec<Signature> {
     let mut signatures = Vec::new();
     for flags in 0..6 {
@@ -63,7 +64,7 @@ fn escape_tags() -> Vec<Signature> {
     signatures
 }
 
-/// Signed and unsigned sides of like and unlike block sizes, with and without a given copy mask.
+/// Signed and unsigned sides with equal and different block sizes, with and without a given copy mask.
 fn side_pairs() -> Vec<Signature> {
     let mut signatures = Vec::new();
     for attribute_flags in [0, COPY_MASK_GIVEN] {
@@ -78,14 +79,14 @@ fn side_pairs() -> Vec<Signature> {
     signatures
 }
 
-/// Configures with each layout in turn, and transfers a byte at the end of the one that the key was left with.
+/// Configures with each layout in turn, and receives a byte with the layout that the key has in the end.
 fn layouts(name: &str, memory: u64, layouts: Vec<Layout>) -> Case {
     let mut case = Case::named(name);
     for layout in layouts {
         let signature = signature(unsigned(), unsigned());
         case = case.then(configure(memory, Configuration { layout, signature }));
     }
-    let last = Call::Receive { memory, wire: 1, offset: 0, length: 1 };
+    let last = Call::Receive { memory, wire: 1, offset: 0, data_length: 1 };
     case.then(last)
 }
 
@@ -110,7 +111,7 @@ fn malformed_layouts() -> Vec<Layout> {
     [&used[..], &repeats, &counts, &products, &wrapping].concat()
 }
 
-/// Pieces that end at, before and beyond byte 0x40.
+/// Layouts whose pieces end before, at and beyond byte 0x40.
 fn outside_layouts() -> Vec<Layout> {
     let ends = [(0, 0x3F), (0, 0x40), (0, 0x41), (0x38, 8), (0x39, 8), (0x3F, 1), (0x40, 1), (0, u32::MAX)];
     let top = u64::MAX;
@@ -123,7 +124,7 @@ fn outside_layouts() -> Vec<Layout> {
 
 fn outside_repeats() -> Vec<Layout> {
     let repeats = [(0, 8, 8, 4), (8, 8, 8, 4), (9, 8, 8, 4), (0, 1, 0, 63), (0, 1, 0, 64), (0, 1, 0, 65)];
-    // The last skip needs no memory; count + skip is 2^32 in each.
+    // The last skip needs no memory. In each of these, count + skip is 2^32.
     let wide_skips = [(0, 1, u32::MAX, 1), (0, 1, u32::MAX, 2), (0, 8, u32::MAX - 7, 2), (0, 8, u32::MAX - 7, 3)];
     let all = repeats.iter().chain(&wide_skips);
     all.map(|&(start, count, skip, repeat)| repeated_layout(&[entry(start, count, skip)], repeat)).collect()
@@ -150,7 +151,7 @@ fn overlapping_layouts() -> Vec<Layout> {
     [&pairs[..], &threes, &woven, &alone].concat()
 }
 
-/// Of two refusals that apply the one that comes first: each answer with the next.
+/// Configurations to which two refusals apply, each answer with the next: the first is returned.
 fn configure_order() -> Case {
     let signatures = refused_signatures().map(|signature| (signature, Layout::default()));
     let without_count_and_outside = list_layout(&[entry(0x100, 8, 0), entry(0, 0, 0)]);
@@ -162,7 +163,7 @@ fn configure_order() -> Case {
         .then_all(all.map(|(signature, layout)| configure(0x40, Configuration { layout, signature })))
 }
 
-/// Signatures to which two of the answers 1 to 4 apply, or one and the layout's.
+/// Signatures to which two of the answers 1 to 4 apply, or one of them and one for the layout.
 fn refused_signatures() -> [Signature; 9] {
     let kind_2 = Domain { kind: 2, ..dif() };
     let escape = Domain { flags: 2, application_tag: 0xFFFF, ..dif() };
@@ -182,7 +183,7 @@ fn refused_signatures() -> [Signature; 9] {
     ]
 }
 
-/// "a refused call leaves key": the old configuration goes on working, and so does none at all.
+/// "a refused call leaves key": after a refused configure, the key still has its old configuration, or none.
 fn kept_configuration() -> Case {
     let good = plan(signature(unsigned(), dif()), 16);
     let bad = configure(0x20, Configuration::default());
@@ -194,30 +195,30 @@ fn kept_configuration() -> Case {
 
 fn transfer_cases() -> Vec<Case> {
     let sides = [(unsigned(), unsigned()), (unsigned(), dif()), (dif(), unsigned()), (dif(), dif())];
-    let mut cases: Vec<Case> = sides.into_iter().map(|(memory, wire)| borders(signature(memory, wire))).collect();
-    cases.push(borders(signature(unsigned(), Domain { block_size: 24, ..dif() })));
+    let mut cases: Vec<Case> = sides.into_iter().map(|(memory, wire)| boundaries(signature(memory, wire))).collect();
+    cases.push(boundaries(signature(unsigned(), Domain { block_size: 24, ..dif() })));
     cases.extend([huge_lengths(), never_configured(), transfer_order()]);
     cases
 }
 
-/// Send, receive and open with the same numbers. An accepted open is abandoned.
-fn all_three(memory: u64, wire: u64, offset: u64, length: u64) -> [Call; 4] {
+/// Send, receive and open with the same numbers, and an abandon for the case that open is accepted.
+fn all_three(memory: u64, wire: u64, offset: u64, data_length: u64) -> [Call; 4] {
     [
-        Call::Send { memory, wire, offset, length },
-        Call::Receive { memory, wire, offset, length },
-        Call::Open { memory, offset, length },
+        Call::Send { memory, wire, offset, data_length },
+        Call::Receive { memory, wire, offset, data_length },
+        Call::Open { memory, offset, data_length },
         Call::Abandon,
     ]
 }
 
 /// Answers 8 to 11 around an accepted transfer that ends where the layout does.
-fn borders(signature: Signature) -> Case {
+fn boundaries(signature: Signature) -> Case {
     let mut plan = plan(signature, 48);
     let (total, wire) = (plan.memory, plan.wire_stream());
     plan.memory += 3;
     let lent = plan.memory;
     let memory_lengths = [lent, lent - 1, lent + 1, 0].map(|memory| all_three(memory, wire, 0, 48));
-    let lengths = [47, 49, 40, 56, 24, 72, 1, 0].map(|length| all_three(lent, 0x100, 0, length));
+    let lengths = [47, 49, 40, 56, 24, 72, 1, 0].map(|data_length| all_three(lent, 0x100, 0, data_length));
     let offsets = [1, 8, total, total + 1, u64::MAX].map(|offset| all_three(lent, 0x100, offset, 48));
     let empty = [0, total - 1, total, total + 1, u64::MAX].map(|offset| all_three(lent, 0, offset, 0));
     let wires = [wire, wire - 1, wire + 1, 0].map(|wire| all_three(lent, wire, 0, 48));
@@ -227,27 +228,27 @@ fn borders(signature: Signature) -> Case {
         .then(Call::Check)
 }
 
-/// Lengths at which a sum of 64 bits would wrap and pass.
+/// Data lengths at which a sum in 64 bits would wrap, so that the transfer would be accepted.
 fn huge_lengths() -> Case {
     let mut case = Case::named("huge lengths");
     for block_size in [8, 16, 24, 4_160] {
         let unit = u64::from(block_size) + 8;
-        // The fewest blocks whose stream with fields is longer than 64 bits can say.
+        // The smallest number of blocks whose stream with fields has 2^64 bytes or more.
         let wrapping = (u64::MAX / unit + 1) * u64::from(block_size);
         let most = u64::MAX / u64::from(block_size) * u64::from(block_size);
         for (memory, wire) in [(1, 0), (0, 1), (1, 1)] {
             let domain = |kind: u32| Domain { kind, block_size, ..dif() };
             let plan = plan(signature(domain(memory), domain(wire)), block_size.into());
             case = case.then(plan.configure());
-            for length in [wrapping, most, u64::MAX] {
-                case = case.then_all(all_three(plan.memory, 0x3000, 0, length));
+            for data_length in [wrapping, most, u64::MAX] {
+                case = case.then_all(all_three(plan.memory, 0x3000, 0, data_length));
             }
             case = case.then_all(all_three(plan.memory, 0x3000, u64::MAX - 7, 2 * u64::from(block_size)));
         }
     }
     let bare = plan(signature(unsigned(), unsigned()), 0x10);
     let wrapping_ends = [(u64::MAX, 1), (1, u64::MAX), (u64::MAX, u64::MAX), (1 << 63, 1 << 63), (0, u64::MAX)];
-    let calls = wrapping_ends.map(|(offset, length)| all_three(0x10, 0x3000, offset, length));
+    let calls = wrapping_ends.map(|(offset, data_length)| all_three(0x10, 0x3000, offset, data_length));
     case.then(bare.configure()).then_all(calls.concat())
 }
 
@@ -260,7 +261,7 @@ fn never_configured() -> Case {
         .then_all(all_three(0, 0, u64::MAX, u64::MAX))
 }
 
-/// Of two refusals that apply the one that comes first.
+/// Transfers to which two refusals apply: the first is returned.
 fn transfer_order() -> Case {
     let plan = plan(signature(dif(), dif()), 16);
     let right = plan.memory;
@@ -274,7 +275,7 @@ fn transfer_order() -> Case {
     Case::named("order of a transfer's answers").then(plan.configure()).then_all(calls.concat())
 }
 
-/// Memory at the limit and one byte beyond it: more than README.md's buffer has.
+/// Memory at the limit and one byte longer, which README.md's buffer has no room for.
 pub fn large_memory() -> Case {
     let mut plan = plan(signature(unsigned(), dif()), 24);
     plan.configuration.layout = list_layout(&[entry(MEMORY_LIMIT - 0x20, 0x20, 0)]);

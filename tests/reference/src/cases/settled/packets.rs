@@ -1,4 +1,4 @@
-//! Receive by packets: cuts at every place, the refusals 8, 12 and 13, and sessions that have ended.
+//! Receives by packets: cuts at every place, the refusals 8, 12 and 13, and sessions that have ended.
 
 use super::*;
 use crate::cases::{repeated_layout, Direction};
@@ -20,20 +20,20 @@ fn sides() -> [(Domain, Domain); 5] {
     [(unsigned(), unsigned()), (unsigned(), dif()), (dif(), unsigned()), (dif(), dif()), (dif(), other)]
 }
 
-/// Two blocks of 8 over two woven entries.
+/// A transfer of two blocks of 8 bytes over two entries whose repeats alternate in memory.
 fn woven_plan(signature: Signature) -> Plan {
     let layout = repeated_layout(&[entry(7, 5, 3), entry(4, 3, 5)], 5);
-    Plan { memory: 0x40, configuration: Configuration { layout, signature }, offset: 6, length: 16 }
+    Plan { memory: 0x40, configuration: Configuration { layout, signature }, offset: 6, data_length: 16 }
 }
 
-/// A wire with a bad field in its first block, if it has any.
+/// Puts a wire in place whose first block has a bad field, if the wire is signed, and configures the key.
 fn prepared(name: &str, plan: &Plan) -> Case {
     Case::named(name)
         .then_all(plan.prepare(Direction::Receive))
         .then_all([plan.configure(), plan.set_input(Direction::Receive, 11, 0x66)])
 }
 
-/// Each byte alone, with a finish after it: too early but for the last.
+/// Receives byte by byte, with a finish after each. All but the last are too early.
 fn byte_by_byte(plan: &Plan) -> Case {
     let mut case = prepared("byte by byte", plan).then_all([plan.open(), Call::Finish]);
     for at in 0..plan.wire_stream() {
@@ -42,7 +42,7 @@ fn byte_by_byte(plan: &Plan) -> Case {
     case.then(Call::Check)
 }
 
-/// Two packets with the cut at every place, each time over memory filled anew.
+/// Receives in two packets, with the cut at every place, each time into memory that is filled anew.
 fn every_cut(plan: &Plan) -> Case {
     let stream = plan.wire_stream();
     let mut case = prepared("every cut", plan);
@@ -59,7 +59,8 @@ fn every_cut(plan: &Plan) -> Case {
     case
 }
 
-/// Packets one byte too long, of a wrong memory length or both, before each accepted one and after the last.
+/// Packets that are refused, for they are too long, have a wrong memory length or both: before each accepted packet, and
+/// after the last.
 fn refusals(plan: &Plan) -> Case {
     let stream = plan.wire_stream();
     let refused = |taken: u64| {
@@ -81,16 +82,16 @@ fn refusals(plan: &Plan) -> Case {
         .then_all([plan.packet(0, 0), Call::Finish, Call::Check])
 }
 
-/// L = 0: all bytes have come from the start, at an offset that may be the total.
+/// Data length 0: all bytes have arrived from the start. The offset is the layout's total.
 fn nothing_to_receive() -> Case {
     let mut plan = woven_plan(signature(unsigned(), dif()));
-    (plan.offset, plan.length) = (40, 0);
+    (plan.offset, plan.data_length) = (40, 0);
     Case::named("nothing to receive")
         .then_all([plan.configure(), plan.open(), plan.packet(0, 0), plan.packet(0, 1), Call::Finish])
         .then_all([plan.open(), Call::Abandon, plan.open(), Call::Finish, Call::Check])
 }
 
-/// No session, one that was finished, one that was abandoned, and one that went with its key.
+/// Calls with no session, after a finish, after an abandon, and after the state was reset.
 fn ended_sessions() -> Case {
     let plan = woven_plan(signature(unsigned(), dif()));
     let refused = [plan.packet(0, 0), plan.packet(0, 1), Call::Packet { memory: 0, at: 0, count: 9 }];
@@ -106,7 +107,7 @@ fn ended_sessions() -> Case {
         .then(plan.open())
 }
 
-/// The packet's memory is held against the session's length.
+/// A packet's memory must have the configured length.
 fn memory_lengths() -> Case {
     let plan = woven_plan(signature(unsigned(), dif()));
     let lent = |memory: u64| Call::Packet { memory, at: 0, count: 1 };
@@ -116,7 +117,7 @@ fn memory_lengths() -> Case {
         .then_all([Call::Abandon, Call::Check])
 }
 
-/// A refused open leaves the session under way; an accepted one replaces it and starts from nothing.
+/// A refused open leaves the session in progress; an accepted one replaces it with a new session.
 fn opens_over_a_session() -> Case {
     let plan = woven_plan(signature(unsigned(), dif()));
     let refused = Plan { offset: 41, ..plan.clone() };
@@ -125,7 +126,7 @@ fn opens_over_a_session() -> Case {
         .then_all([plan.open(), plan.packet(0, 32), Call::Finish, Call::Check])
 }
 
-/// The key that finish gives back is the one for the next transfer.
+/// The key that finish returns is used for the next transfer.
 fn two_transfers() -> Case {
     let plan = woven_plan(signature(dif(), dif()));
     prepared("two transfers", &plan)
@@ -134,7 +135,7 @@ fn two_transfers() -> Case {
         .then_all([plan.send(), Call::Check])
 }
 
-/// A key whose record lost its seal is none, and the session goes on without it.
+/// A key that has lost its seal is refused, and the session goes on without it.
 fn unsealed_key() -> Case {
     let plan = woven_plan(signature(unsigned(), dif()));
     prepared("a key without its seal", &plan)

@@ -1,4 +1,4 @@
-//! Document 01's cases A to N and its sizes, and the vectors of SBC-3 and RFC 1071 through send.
+//! The rule book's cases A to N and its block sizes, and the vectors of SBC-3 and RFC 1071, made by sends.
 
 use super::*;
 use crate::cases::repeated_layout;
@@ -12,14 +12,14 @@ fn case_a() -> Plan {
     plan(signature(unsigned(), dif()), 16)
 }
 
-/// A's data in memory, sent.
+/// Sends case A's data.
 fn case_a_sent(name: &str) -> Case {
     let mut data = [0; 16];
     data[7] = 1;
     Case::named(name).then(case_a().configure()).then_all(memory_bytes(0, &data)).then(case_a().send())
 }
 
-/// A's wire with some bytes changed, received under another signature into other memory.
+/// Changes some bytes of case A's wire, and receives it under another signature into memory filled anew.
 fn case_a_received(name: &str, changes: Vec<Call>, signature: Signature) -> Case {
     let plan = plan(signature, 16);
     case_a_sent(name).then_all(changes).then(Call::FillMemory { pattern: 3 }).then_all([
@@ -30,14 +30,14 @@ fn case_a_received(name: &str, changes: Vec<Call>, signature: Signature) -> Case
 }
 
 fn a_to_d() -> Vec<Case> {
-    let spoiled = wire_bytes(23, &[2]);
+    let damaged = wire_bytes(23, &[2]);
     let checked = *case_a().signature();
     let unchecked_guard = Signature { check_mask: 0x3F, ..checked };
     vec![
         case_a_sent("A").then(Call::Check),
         case_a_received("B", vec![], checked),
-        case_a_received("C", spoiled.clone(), checked),
-        case_a_received("D", spoiled, unchecked_guard),
+        case_a_received("C", damaged.clone(), checked),
+        case_a_received("D", damaged, unchecked_guard),
     ]
 }
 
@@ -69,8 +69,11 @@ fn j_to_l() -> Vec<Case> {
         configure(memory, Configuration { layout, signature: signature(unsigned(), unsigned()) })
     };
     let across_both = |offset: u64| {
-        let (memory, wire, length) = (1_044, 20, 20);
-        [Call::Send { memory, wire, offset, length }, Call::Receive { memory, wire: wire + 1, offset, length }]
+        let (memory, wire, data_length) = (1_044, 20, 20);
+        [
+            Call::Send { memory, wire, offset, data_length },
+            Call::Receive { memory, wire: wire + 1, offset, data_length },
+        ]
     };
     let case_j = Case::named("J").then(configure_with(1_044, 1_028));
     vec![
@@ -112,7 +115,7 @@ fn sizes() -> Case {
     Case::named("sizes").then_all(configured)
 }
 
-/// Five blocks of 32 bytes in one transfer.
+/// Sends the five blocks of 32 bytes for which SBC-3 prints a CRC, in one transfer.
 fn sbc_3() -> Case {
     let counting: Vec<u8> = (0..32).collect();
     let falling: Vec<u8> = counting.iter().map(|byte| 0xFF - byte).collect();

@@ -1,4 +1,4 @@
-//! The transfer rule: both directions over every pair of sides, copying, escapes and the error slot.
+//! The transfer rule: both directions with every pair of sides, copying, escapes and the error slot.
 
 use super::*;
 use crate::cases::{repeated_layout, Direction};
@@ -10,7 +10,7 @@ pub fn cases() -> Vec<Case> {
 
 const DIRECTIONS: [Direction; 2] = [Direction::Send, Direction::Receive];
 
-/// The wire's domain where the memory's is case A's: nothing agrees but the block size.
+/// A domain that agrees with case A's in nothing but the block size.
 fn other_dif() -> Domain {
     Domain {
         guard_type: CHECKSUM,
@@ -22,7 +22,7 @@ fn other_dif() -> Domain {
     }
 }
 
-/// Three layouts of more than 80 bytes: one piece, a list out of order, and two entries woven into each other.
+/// Three layouts of more than 80 bytes: one piece, a list out of order, and two entries whose repeats alternate.
 fn layouts() -> [Layout; 3] {
     [
         list_layout(&[entry(5, 100, 0)]),
@@ -39,7 +39,7 @@ fn directions_and_sides() -> Vec<Case> {
         for layout in layouts() {
             for direction in DIRECTIONS {
                 let configuration = Configuration { layout, signature: signature(memory, wire) };
-                let plan = Plan { memory: 0x80, configuration, offset: 3, length: 32 };
+                let plan = Plan { memory: 0x80, configuration, offset: 3, data_length: 32 };
                 cases.push(transferred(&plan, direction));
             }
         }
@@ -47,13 +47,13 @@ fn directions_and_sides() -> Vec<Case> {
     cases
 }
 
-/// A valid input transferred, then one whose second block is spoiled.
+/// Transfers a valid input, then one whose second block is damaged.
 fn transferred(plan: &Plan, direction: Direction) -> Case {
-    let spoiled = plan.input_stream(direction) / 2;
+    let damaged = plan.input_stream(direction) / 2;
     Case::named(format!("{direction:?} over a pair of sides"))
         .then_all(plan.prepare(direction))
         .then_all([plan.configure(), plan.transfer(direction), Call::Check])
-        .then_all([plan.set_input(direction, spoiled, 0x5A), plan.transfer(direction), Call::Check])
+        .then_all([plan.set_input(direction, damaged, 0x5A), plan.transfer(direction), Call::Check])
 }
 
 fn copying() -> Vec<Case> {
@@ -65,16 +65,16 @@ fn copying() -> Vec<Case> {
     cases
 }
 
-/// Two blocks of which the first is spoiled in its data and in both tags, so that each byte copied shows.
-fn spoiled_input(name: &str, plan: &Plan, direction: Direction) -> Case {
-    let spoiled = [2, 10, 11, 12, 13, 14, 15].map(|at| plan.set_input(direction, at, 0x70 + at as u8));
-    Case::named(name).then_all(plan.prepare(direction)).then_all(spoiled)
+/// Puts two blocks in place, the first with damage in its data and in both tags, so that each copied byte is seen.
+fn damaged_input(name: &str, plan: &Plan, direction: Direction) -> Case {
+    let damaged = [2, 10, 11, 12, 13, 14, 15].map(|at| plan.set_input(direction, at, 0x70 + at as u8));
+    Case::named(name).then_all(plan.prepare(direction)).then_all(damaged)
 }
 
 fn given_masks(direction: Direction) -> Case {
     let plan = plan(signature(dif(), other_dif()), 16);
     let masks = [0x80, 0x40, 0x20, 0x10, 0x08, 0x04, 0x02, 0x01, 0x00, 0xC0, 0x3F, 0xFF];
-    let mut case = spoiled_input("copy mask given", &plan, direction);
+    let mut case = damaged_input("copy mask given", &plan, direction);
     for copy_mask in masks {
         let mut plan = plan.clone();
         plan.configuration.signature.attribute_flags = COPY_MASK_GIVEN;
@@ -84,7 +84,7 @@ fn given_masks(direction: Direction) -> Case {
     case.then(Call::Check)
 }
 
-/// Output domains that differ from the input domain, case A's, in one number at a time.
+/// Output domains that differ from the input domain, which is case A's, in one number or in all.
 fn outputs() -> [Domain; 9] {
     let like = dif();
     [
@@ -100,9 +100,9 @@ fn outputs() -> [Domain; 9] {
     ]
 }
 
-/// The copy mask given is ignored.
+/// Transfers without the attribute flag, so that the copy mask in the signature is ignored.
 fn automatic_masks(direction: Direction) -> Case {
-    let mut case = spoiled_input("copy mask worked out", &plan(signature(dif(), dif()), 16), direction);
+    let mut case = damaged_input("automatic copy mask", &plan(signature(dif(), dif()), 16), direction);
     for (at, output) in outputs().into_iter().enumerate() {
         let signature = match direction {
             Direction::Send => signature(dif(), output),
@@ -125,7 +125,7 @@ fn escapes() -> Vec<Case> {
     cases
 }
 
-/// A block with a wrong guard, whose other two fields read an escape in whole, in half or not at all.
+/// Receives a block with a wrong guard, whose tags are an escape, half of one, or none.
 fn escaped_fields(flags: u32, check_mask: u8) -> Case {
     let reference_tag = 0x0102_0304;
     let wire = Domain { flags, reference_tag, ..dif() };
@@ -149,7 +149,7 @@ fn escaped_fields(flags: u32, check_mask: u8) -> Case {
     case
 }
 
-/// The escape flag stands in the output domain alone, and so it doesn't escape.
+/// The output domain alone has an escape flag, so no block escapes.
 fn escape_of_the_output() -> Case {
     let plan = plan(signature(Domain { flags: REMAP | 2, ..dif() }, dif()), 16);
     Case::named("escape flag of the output domain")
@@ -165,7 +165,8 @@ fn error_slot() -> Vec<Case> {
     cases
 }
 
-/// A block with three bad fields behind a good one: the mask decides which is reported, and it is reported whole.
+/// Receives a good block and one with a bad guard and two bad tags. The mask decides which of them is reported, and the
+/// report has all its bytes.
 fn order_of_fields(check_mask: u8) -> Case {
     let plan = plan(Signature { check_mask, ..signature(unsigned(), dif()) }, 24);
     Case::named("order of the fields")
@@ -176,7 +177,7 @@ fn order_of_fields(check_mask: u8) -> Case {
         .then_all([plan.receive(), Call::Check, Call::Check])
 }
 
-/// The slot keeps its first error through a good and a bad transfer and both kinds of configure, until it is checked.
+/// The slot keeps its first error through good and bad transfers and accepted and refused configures, until a check.
 fn first_error_kept() -> Case {
     let plan = plan(signature(unsigned(), dif()), 24);
     let refused = configure(0x20, Configuration::default());
@@ -188,7 +189,7 @@ fn first_error_kept() -> Case {
         .then_all([Call::Check, Call::Check, plan.set_input(Direction::Receive, 10, 0x66), plan.receive(), Call::Check])
 }
 
-/// A session's key holds the old error, whatever the packets bring.
+/// A key that holds an error at open holds the same error after the session, whatever the packets hold.
 fn slot_kept_by_open() -> Case {
     let plan = plan(signature(unsigned(), dif()), 16);
     Case::named("first error kept by open")
@@ -198,7 +199,7 @@ fn slot_kept_by_open() -> Case {
         .then_all([Call::Finish, Call::Check, plan.open(), plan.packet(0, 20), Call::Abandon, Call::Check])
 }
 
-/// The layout offset enters neither the error's offset nor the reference tag.
+/// Neither the error's offset nor the reference tag depends on the layout offset.
 fn offset_in_the_stream() -> Case {
     let mut plan = plan(signature(dif(), other_dif()), 24);
     plan.memory = 0x80;
@@ -212,7 +213,7 @@ fn offset_in_the_stream() -> Case {
     ])
 }
 
-/// The longest stream there is, with its last block damaged: no error lies further on.
+/// The longest stream that there is, with damage in its last block: no error has a larger offset.
 pub fn longest_stream() -> Case {
     let plan = plan(signature(unsigned(), Domain { guard_type: CHECKSUM, ..dif() }), MEMORY_LIMIT);
     let wire = plan.wire_stream();

@@ -1,66 +1,66 @@
-//! True records made hostile, and which of their words that changes.
+//! Damage that makes a valid key or session hostile, and the words that it changes.
 
 use crate::live::state::State;
 use crate::rng::Rng;
 
-/// Values that a field may have been meant for, or that lie beside a limit.
+/// Numbers that are valid in some field, or next to a limit.
 const LIKELY_NUMBERS: [u32; 16] = [0, 1, 2, 7, 8, 12, 16, 17, 64, 1024, 1025, 4160, 4168, 0xFFFF, 1 << 31, u32::MAX];
 
 pub const WRONG_SEALS: usize = 6;
 
-/// How the true records become others.
+/// How a key and a session are changed.
 #[derive(Clone)]
-pub enum Spoiling {
+pub enum Damage {
     Random(Rng),
-    /// Before both records the wrong seal of this number.
+    /// Both structs get a wrong seal: the one with this index.
     WrongSeals(usize),
-    Words(Vec<SpoiledWord>),
+    Words(Vec<ChangedWord>),
 }
 
 #[derive(Clone)]
-pub struct SpoiledWord {
-    record: Record,
+pub struct ChangedWord {
+    which: Which,
     at: usize,
     word: u64,
 }
 
 #[derive(Clone, Copy)]
-enum Record {
+enum Which {
     Key,
     Session,
 }
 
-impl Spoiling {
-    /// None before they are drawn.
-    pub fn words(&self) -> &[SpoiledWord] {
+impl Damage {
+    /// The words that are changed; none are known before they are drawn.
+    pub fn words(&self) -> &[ChangedWord] {
         match self {
-            Spoiling::Words(words) => words,
-            Spoiling::Random(_) | Spoiling::WrongSeals(_) => &[],
+            Damage::Words(words) => words,
+            Damage::Random(_) | Damage::WrongSeals(_) => &[],
         }
     }
 
-    /// The words that it changes in these records.
-    pub fn drawn(&self, mut state: State) -> Vec<SpoiledWord> {
+    /// Returns the words that it changes in this key and session.
+    pub fn drawn(&self, mut state: State) -> Vec<ChangedWord> {
         let (key, session) = (state.key, state.session);
-        self.spoil(&mut state);
-        let of_key = changed_words(Record::Key, &key.words, &state.key.words);
-        of_key.chain(changed_words(Record::Session, &session.words, &state.session.words)).collect()
+        self.apply(&mut state);
+        let of_key = changed_words(Which::Key, &key.words, &state.key.words);
+        of_key.chain(changed_words(Which::Session, &session.words, &state.session.words)).collect()
     }
 
-    pub fn spoil(&self, state: &mut State) {
+    pub fn apply(&self, state: &mut State) {
         let State { key, session, .. } = state;
         let (key_seal, session_seal) = (key.words[0], session.words[0]);
         match self {
-            Spoiling::Random(rng) => spoil_records(&mut rng.clone(), &mut key.words, &mut session.words),
-            Spoiling::WrongSeals(wrong) => {
+            Damage::Random(rng) => damage_structs(&mut rng.clone(), &mut key.words, &mut session.words),
+            Damage::WrongSeals(wrong) => {
                 key.words[0] = wrong_seals(key_seal, session_seal)[*wrong];
                 session.words[0] = wrong_seals(session_seal, key_seal)[*wrong];
             }
-            Spoiling::Words(words) => {
-                for &SpoiledWord { record, at, word } in words {
-                    match record {
-                        Record::Key => key.words[at] = word,
-                        Record::Session => session.words[at] = word,
+            Damage::Words(words) => {
+                for &ChangedWord { which, at, word } in words {
+                    match which {
+                        Which::Key => key.words[at] = word,
+                        Which::Session => session.words[at] = word,
                     }
                 }
             }
@@ -68,35 +68,35 @@ impl Spoiling {
     }
 }
 
-impl SpoiledWord {
+impl ChangedWord {
     pub fn text(&self) -> String {
-        let record = match self.record {
-            Record::Key => "key",
-            Record::Session => "session",
+        let name = match self.which {
+            Which::Key => "key",
+            Which::Session => "session",
         };
-        format!("{record} word {} is {:#x}", self.at, self.word)
+        format!("{name} word {} is {:#x}", self.at, self.word)
     }
 }
 
-fn changed_words<'a>(record: Record, from: &'a [u64], to: &'a [u64]) -> impl Iterator<Item = SpoiledWord> + 'a {
+fn changed_words<'a>(which: Which, from: &'a [u64], to: &'a [u64]) -> impl Iterator<Item = ChangedWord> + 'a {
     let words = from.iter().zip(to).enumerate().filter(|(_, (from, to))| from != to);
-    words.map(move |(at, (_, &word))| SpoiledWord { record, at, word })
+    words.map(move |(at, (_, &word))| ChangedWord { which, at, word })
 }
 
-/// The key, the session or both.
-fn spoil_records(rng: &mut Rng, key: &mut [u64], session: &mut [u64]) {
+/// Damages the key, the session or both.
+fn damage_structs(rng: &mut Rng, key: &mut [u64], session: &mut [u64]) {
     let (key_seal, session_seal) = (key[0], session[0]);
     let which = rng.below(3);
     if which != 0 {
-        spoil(rng, key, session_seal);
+        damage(rng, key, session_seal);
     }
     if which != 1 {
-        spoil(rng, session, key_seal);
+        damage(rng, session, key_seal);
     }
 }
 
-/// Spoils a record, of which the first word is the seal.
-fn spoil(rng: &mut Rng, words: &mut [u64], other_seal: u64) {
+/// Damages a struct, whose first word is the seal.
+fn damage(rng: &mut Rng, words: &mut [u64], other_seal: u64) {
     match rng.below(8) {
         0 => words.fill_with(|| rng.number()),
         1 => words[1..].fill_with(|| rng.number()),
@@ -117,7 +117,7 @@ fn wrong_seals(seal: u64, other_seal: u64) -> [u64; WRONG_SEALS] {
     [0, u64::MAX, other_seal, seal ^ 1, seal ^ 1 << 63, seal.swap_bytes()]
 }
 
-/// Any word, but rather one that isn't zero: most of a record's entries are not in use.
+/// Returns the place of some word, preferably of one that isn't zero: most entries of a key's layout are unused.
 fn some_place(rng: &mut Rng, words: &[u64]) -> usize {
     let places: Vec<usize> = (0..words.len()).collect();
     let in_use: Vec<usize> = places.iter().copied().filter(|&at| words[at] != 0).collect();

@@ -1,0 +1,76 @@
+/* Words for answers and errors, and the version. The Rust crate says the same words, and its tests compare them. */
+#include "garoalva.h"
+#include <inttypes.h>
+#include <stdio.h>
+
+const char *garoalva_version(void) { return GAROALVA_VERSION; }
+
+const char *garoalva_answer_text(uint64_t answer) {
+    switch (answer) {
+    case GAROALVA_ANSWER_DONE:
+        return "done";
+    case GAROALVA_ANSWER_BAD_DOMAIN:
+        return "a domain's kind, block size, guard type, seed or flags, or the attribute flags, are not valid";
+    case GAROALVA_ANSWER_ESCAPE_TAG:
+        return "a domain with an escape flag has the application tag 0xFFFF, so that its guards would go unchecked";
+    case GAROALVA_ANSWER_COPY_MASK:
+        return "a copy mask is given, but the two sides are not both signed with one block size";
+    case GAROALVA_ANSWER_BLOCK_SIZES:
+        return "the two sides are signed with different block sizes";
+    case GAROALVA_ANSWER_MALFORMED_LAYOUT:
+        return "the layout has no entries or too many, a repeat or count of 0, or too many pieces";
+    case GAROALVA_ANSWER_OUTSIDE_MEMORY:
+        return "a piece of the layout ends beyond the memory";
+    case GAROALVA_ANSWER_OVERLAP:
+        return "two pieces of the layout share a byte";
+    case GAROALVA_ANSWER_MEMORY_LENGTH:
+        return "the memory is longer than the limit, or not of the configured length";
+    case GAROALVA_ANSWER_PARTIAL_BLOCK:
+        return "the data length is not a multiple of the block size";
+    case GAROALVA_ANSWER_PAST_LAYOUT:
+        return "the memory stream ends beyond the layout";
+    case GAROALVA_ANSWER_SHORT_WIRE:
+        return "the wire buffer is shorter than the wire stream";
+    case GAROALVA_ANSWER_LONG_PACKET:
+        return "the packet is longer than the wire bytes still to come";
+    case GAROALVA_ANSWER_BYTES_TO_COME:
+        return "not all wire bytes have arrived";
+    case GAROALVA_ANSWER_NOT_CONFIGURED:
+        return "the key was never configured";
+    case GAROALVA_ANSWER_NOT_A_KEY:
+        return "the struct is not a key of the library's version";
+    case GAROALVA_ANSWER_NOT_A_SESSION:
+        return "the struct is not a session of the library's version, or the session has ended";
+    default:
+        return "unknown answer";
+    }
+}
+
+/* Returns the name of the bad guard or tag, or null for a type that is none. */
+static const char *tag_name(uint32_t type) {
+    switch (type) {
+    case GAROALVA_ERROR_GUARD:
+        return "guard";
+    case GAROALVA_ERROR_REFERENCE:
+        return "reference tag";
+    case GAROALVA_ERROR_APPLICATION:
+        return "application tag";
+    default:
+        return NULL;
+    }
+}
+
+size_t garoalva_error_text(garoalva_error error, char *text, size_t size) {
+    /* POSIX lets snprintf refuse a size above INT_MAX, and no text needs more than this. */
+    size_t room = size < GAROALVA_ERROR_TEXT_SIZE ? size : GAROALVA_ERROR_TEXT_SIZE;
+    if (error.type == GAROALVA_ERROR_NONE)
+        return (size_t)snprintf(text, room, "no error");
+    const char *tag = tag_name(error.type);
+    if (tag == NULL)
+        return (size_t)snprintf(text, room, "unknown error type");
+    int digits = error.type == GAROALVA_ERROR_REFERENCE ? 8 : 4;
+    return (size_t)snprintf(text, room,
+                            "bad %s in the block at byte %" PRIu32 " of the input stream: its field says 0x%0*" PRIX32
+                            ", the rule gives 0x%0*" PRIX32,
+                            tag, error.offset, digits, error.expected, digits, error.actual);
+}
