@@ -59,11 +59,11 @@ number-done (Refused r) e = absurd (no-refusal r e)
 -- ---- what came from the calls
 
 -- An accepted open returns the C struct of a session that came from the calls.
-opened-came : (r : CKey) (n x count : ℕ) → CKeyCame r → cOpen r n x count .answer ≡ 0 → CSessionCame (cOpen r n x count .session)
-opened-came r n x count f z =
-    let e : cOpen r n x count ≡ openResultToC (openResult (f .key) n (record { 0 = x }) count) = rw (f .same) (c-api .keyCame (f .key) (f .came) .«open» n x count) in
-    let d : openAnswer (f .key) n x count ≡ Done = number-done (openAnswer (f .key) n x count) (ap (λ (a : COpenResult). a .answer) (sym e) ∙ z) in
-    record { session = openResult (f .key) n (record { 0 = x }) count .session; came = premise-kept .«open» (f .key) n (record { 0 = x }) count (f .came) d; same = rw (e, d) refl }
+opened-came : (r : CKey) (n offset dataLength : ℕ) → CKeyCame r → cOpen r n offset dataLength .answer ≡ 0 → CSessionCame (cOpen r n offset dataLength .session)
+opened-came r n offset dataLength f z =
+    let e : cOpen r n offset dataLength ≡ openResultToC (openResult (f .key) n (record { 0 = offset }) dataLength) = rw (f .same) (c-api .keyCame (f .key) (f .came) .«open» n offset dataLength) in
+    let d : openAnswer (f .key) n offset dataLength ≡ Done = number-done (openAnswer (f .key) n offset dataLength) (ap (λ (a : COpenResult). a .answer) (sym e) ∙ z) in
+    record { session = openResult (f .key) n (record { 0 = offset }) dataLength .session; came = premise-kept .«open» (f .key) n (record { 0 = offset }) dataLength (f .came) d; same = rw (e, d) refl }
 
 -- An accepted finish returns the C struct of a key that came from the calls, and a refused one returns that of a
 -- session that came from them.
@@ -81,23 +81,23 @@ c-premise-kept = record {
     came = premise-kept .configure (f .key) n (configurationFromC c) (f .came);
     same = rw (f .same, c-api .keyCame (f .key) (f .came) .configure n c) refl;
   };
-  send = λ r memory wire x count f. record {
-    key = sendResult (f .key) memory wire x count .key;
-    came = premise-kept .send (f .key) memory wire x count (f .came);
-    same = rw (f .same, c-api .keyCame (f .key) (f .came) .send memory wire x count .0) refl;
+  send = λ r memory wire offset dataLength f. record {
+    key = sendResult (f .key) memory wire offset dataLength .key;
+    came = premise-kept .send (f .key) memory wire offset dataLength (f .came);
+    same = rw (f .same, c-api .keyCame (f .key) (f .came) .send memory wire offset dataLength .0) refl;
   };
-  receive = λ r memory wire x count f. record {
-    key = receiveResult (f .key) memory wire x count .key;
-    came = premise-kept .receive (f .key) memory wire x count (f .came);
-    same = rw (f .same, c-api .keyCame (f .key) (f .came) .receive memory wire x count .0) refl;
+  receive = λ r memory wire offset dataLength f. record {
+    key = receiveResult (f .key) memory wire offset dataLength .key;
+    came = premise-kept .receive (f .key) memory wire offset dataLength (f .came);
+    same = rw (f .same, c-api .keyCame (f .key) (f .came) .receive memory wire offset dataLength .0) refl;
   };
   check = λ r f. record {
     key = checkResult (f .key) .key;
     came = premise-kept .check (f .key) (f .came);
     same = rw (f .same, c-api .keyCame (f .key) (f .came) .check) refl;
   };
-  «open» = λ r n x count f.
-      (record { key = f .key; came = f .came; same = rw (f .same, c-api .keyCame (f .key) (f .came) .«open» n x count) refl }, opened-came r n x count f);
+  «open» = λ r n offset dataLength f.
+      (record { key = f .key; came = f .came; same = rw (f .same, c-api .keyCame (f .key) (f .came) .«open» n offset dataLength) refl }, opened-came r n offset dataLength f);
   packet = λ r memory bytes b f. record {
     session = packetResult (f .session) (length memory) bytes .session;
     came = premise-kept .packet (f .session) (length memory) bytes b (f .came);
@@ -155,26 +155,26 @@ module _ (r : CKey) (h : cKeyValid r ≡ true) where
   configured : (n : ℕ) (c : CConfiguration) → Refuses (cConfigure r n c .answer) → cConfigure r n c .key ≡ r
   configured n c z = rw (acts .configure n c) (configured-kept (keyFromC r) n (configurationFromC c) (configureAnswer n (configurationFromC c)) (rw (acts .configure n c) at z) ∙ key-back r h)
 
-  sent : (memory wire : List ℕ) (x count : ℕ) → let a = cSend r memory wire x count in Refuses (a .answer)
-      → (a .key ≡ r) × (wireAfterCSend r memory wire x count ≡ wire) × (a .taken ≡ 0) × (a .written ≡ 0)
+  sent : (memory wire : List ℕ) (offset dataLength : ℕ) → let a = cSend r memory wire offset dataLength in Refuses (a .answer)
+      → (a .key ≡ r) × (wireAfterCSend r memory wire offset dataLength ≡ wire) × (a .taken ≡ 0) × (a .written ≡ 0)
   unfolding sendResult wireAfterSend
-  sent memory wire x count z =
-      let e = acts .send memory wire x count in
-      let t = transferred-kept (keyFromC r) _ _ _ wire _ (answerOf (keyFromC r) memory wire x count) (rw (e .0) at z) in
+  sent memory wire offset dataLength z =
+      let e = acts .send memory wire offset dataLength in
+      let t = transferred-kept (keyFromC r) _ _ _ wire _ (answerOf (keyFromC r) memory wire offset dataLength) (rw (e .0) at z) in
       rw (e .0, e .1) (t .0 ∙ key-back r h, t .1, t .2, t .3)
 
-  received : (memory wire : List ℕ) (x count : ℕ) → let a = cReceive r memory wire x count in Refuses (a .answer)
-      → (a .key ≡ r) × (memoryAfterCReceive r memory wire x count ≡ memory) × (a .taken ≡ 0) × (a .written ≡ 0)
+  received : (memory wire : List ℕ) (offset dataLength : ℕ) → let a = cReceive r memory wire offset dataLength in Refuses (a .answer)
+      → (a .key ≡ r) × (memoryAfterCReceive r memory wire offset dataLength ≡ memory) × (a .taken ≡ 0) × (a .written ≡ 0)
   unfolding receiveResult memoryAfterReceive
-  received memory wire x count z =
-      let e = acts .receive memory wire x count in
-      let t = transferred-kept (keyFromC r) _ _ _ memory _ (answerOf (keyFromC r) memory wire x count) (rw (e .0) at z) in
+  received memory wire offset dataLength z =
+      let e = acts .receive memory wire offset dataLength in
+      let t = transferred-kept (keyFromC r) _ _ _ memory _ (answerOf (keyFromC r) memory wire offset dataLength) (rw (e .0) at z) in
       rw (e .0, e .1) (t .0 ∙ key-back r h, t .1, t .2, t .3)
 
-  opened : (n x count : ℕ) → let a = cOpen r n x count in Refuses (a .answer) → (a .key ≡ r) × (a .session ≡ noSession r)
-  opened n x count z =
-      let e = acts .«open» n x count in
-      rw e (key-back r h, opened-kept (openResult (keyFromC r) n (record { 0 = x }) count) (openAnswer (keyFromC r) n x count) (rw e at z) ∙ ap (λ (k : CKey). noSession k) (key-back r h))
+  opened : (n offset dataLength : ℕ) → let a = cOpen r n offset dataLength in Refuses (a .answer) → (a .key ≡ r) × (a .session ≡ noSession r)
+  opened n offset dataLength z =
+      let e = acts .«open» n offset dataLength in
+      rw e (key-back r h, opened-kept (openResult (keyFromC r) n (record { 0 = offset }) dataLength) (openAnswer (keyFromC r) n offset dataLength) (rw e at z) ∙ ap (λ (k : CKey). noSession k) (key-back r h))
 
 -- The laws of this module are about refused calls on a valid C session.
 module _ (r : CSession) (h : cSessionValid r ≡ true) where
@@ -198,12 +198,12 @@ module _ (r : CSession) (h : cSessionValid r ≡ true) where
 pub c-refused : CRefused
 c-refused = record {
   configure = λ r n c z. by-test _ (cKeyValid r) (λ h. configured r h n c z) (λ h. rw (c-api .invalidKey r h .configure n c) refl);
-  send = λ r memory wire x count z. by-test _ (cKeyValid r) (λ h. sent r h memory wire x count z)
-      (λ h. let e = c-api .invalidKey r h .send memory wire x count in rw (e .0, e .1) (refl, refl, refl, refl));
-  receive = λ r memory wire x count z. by-test _ (cKeyValid r) (λ h. received r h memory wire x count z)
-      (λ h. let e = c-api .invalidKey r h .receive memory wire x count in rw (e .0, e .1) (refl, refl, refl, refl));
+  send = λ r memory wire offset dataLength z. by-test _ (cKeyValid r) (λ h. sent r h memory wire offset dataLength z)
+      (λ h. let e = c-api .invalidKey r h .send memory wire offset dataLength in rw (e .0, e .1) (refl, refl, refl, refl));
+  receive = λ r memory wire offset dataLength z. by-test _ (cKeyValid r) (λ h. received r h memory wire offset dataLength z)
+      (λ h. let e = c-api .invalidKey r h .receive memory wire offset dataLength in rw (e .0, e .1) (refl, refl, refl, refl));
   check = λ r z. by-test _ (cKeyValid r) (λ h. absurd (z (rw (c-api .validKey r h .0 .check) refl))) (λ h. rw (c-api .invalidKey r h .check) (refl, refl));
-  «open» = λ r n x count z. by-test _ (cKeyValid r) (λ h. opened r h n x count z) (λ h. rw (c-api .invalidKey r h .«open» n x count) (refl, refl));
+  «open» = λ r n offset dataLength z. by-test _ (cKeyValid r) (λ h. opened r h n offset dataLength z) (λ h. rw (c-api .invalidKey r h .«open» n offset dataLength) (refl, refl));
   packet = λ r memory bytes z. by-test _ (cSessionValid r) (λ h. packed r h memory bytes z)
       (λ h. let e = c-api .invalidSession r h .packet memory bytes in rw (e .0, e .1) (refl, refl, refl, refl));
   finish = λ r z. by-test _ (cSessionValid r) (λ h. finished r h z) (λ h. rw (c-api .invalidSession r h .finish) (refl, refl));

@@ -121,10 +121,10 @@ below s c now r calls e (CMade.abandoned answer ea) = record {
 
 -- Demand 3 holds for C.
 pub c-demand3 : CDemand3
-c-demand3 k memory x count c z calls m =
-    let s = openResult k (length memory) (record { 0 = x }) count in
-    let e = c-api .keyCame k c .«open» (length memory) x count in
-    let d = number-done (openAnswer k (length memory) x count) (ap (λ (a : COpenResult). a .answer) (sym e) ∙ z) in
-    let es : cOpen (keyToC k) (length memory) x count .session ≡ sessionToC (s .session) = rw (e, d) refl in
-    let l = below (s .session) (premise-kept .«open» k (length memory) (record { 0 = x }) count c d) memory (cOpen (keyToC k) (length memory) x count .session) calls es m in
-    record { below = l .below; same = l .same; follows = packets-follow-the-rule k memory (record { 0 = x }) count c s refl d (l .below) (l .made) }
+c-demand3 k memory offset dataLength c z calls m =
+    let s = openResult k (length memory) (record { 0 = offset }) dataLength in
+    let e = c-api .keyCame k c .«open» (length memory) offset dataLength in
+    let d = number-done (openAnswer k (length memory) offset dataLength) (ap (λ (a : COpenResult). a .answer) (sym e) ∙ z) in
+    let es : cOpen (keyToC k) (length memory) offset dataLength .session ≡ sessionToC (s .session) = rw (e, d) refl in
+    let l = below (s .session) (premise-kept .«open» k (length memory) (record { 0 = offset }) dataLength c d) memory (cOpen (keyToC k) (length memory) offset dataLength .session) calls es m in
+    record { below = l .below; same = l .same; follows = packets-follow-the-rule k memory (record { 0 = offset }) dataLength c s refl d (l .below) (l .made) }

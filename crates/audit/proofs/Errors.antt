@@ -9,7 +9,7 @@ use native.Mathlib.Omega.{arith}
 use lib.Arith.{mod-mul}
 use lib.Dec.{eqb, ltb, leb}
 use lib.ListN.{getD}
-use borrow.Author.Tests.{le-leb, lt-leb, not-true, not-false, eqb-true, eqb-false, lt-ltb, le-ltb, ltb-true, ltb-false}
+use borrow.Author.Tests.{le-leb, lt-leb, not-true, not-false, eqb-true, eqb-false, lt-ltb, ltb-true, ltb-false}
 use Rattle.field.specs.declared.ProtectionField.{ProtectionField}
 use Rattle.field.specs.declared.Judgement.{Judgement}
 use Rattle.field.specs.declared.Judgement.the-variants.{Good, Bad}

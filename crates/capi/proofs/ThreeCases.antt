@@ -18,10 +18,10 @@ acts : (r : CKey) → cKeyValid r ≡ true → ActsAs r (keyFromC r)
 unfolding cConfigure cSend wireAfterCSend cReceive memoryAfterCReceive cCheck cOpen
 acts r h = record {
   configure = λ n c. rw h refl;
-  send = λ memory wire x count. rw h (refl, refl);
-  receive = λ memory wire x count. rw h (refl, refl);
+  send = λ memory wire offset dataLength. rw h (refl, refl);
+  receive = λ memory wire offset dataLength. rw h (refl, refl);
   check = rw h refl;
-  «open» = λ n x count. rw h refl;
+  «open» = λ n offset dataLength. rw h refl;
 }
 
 -- The calls refuse a C key that is not valid, and change nothing.
@@ -29,10 +29,10 @@ fails : (r : CKey) → cKeyValid r ≡ false → NoKey r
 unfolding cConfigure cSend wireAfterCSend cReceive memoryAfterCReceive cCheck cOpen
 fails r h = record {
   configure = λ n c. rw h refl;
-  send = λ memory wire x count. rw h (refl, refl);
-  receive = λ memory wire x count. rw h (refl, refl);
+  send = λ memory wire offset dataLength. rw h (refl, refl);
+  receive = λ memory wire offset dataLength. rw h (refl, refl);
   check = rw h refl;
-  «open» = λ n x count. rw h refl;
+  «open» = λ n offset dataLength. rw h refl;
 }
 
 -- A valid C session stands for the session that it converts to.

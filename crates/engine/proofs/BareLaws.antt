@@ -7,7 +7,6 @@ use native.Mathlib.Omega.{arith}
 use lib.Dec.{ltb}
 use lib.ListN.{length}
 use borrow.Author.Tests.{lt-ltb, eq-eqb}
-use Rattle.field.specs.Domains.{signed}
 use Rattle.slot.specs.Slots.{keep}
 use Rattle.slot.proofs.Laws.{keep-none}
 use Rattle.layout.specs.declared.Layout.{Layout}

@@ -81,7 +81,7 @@ fn next_unit(rule: Rule, p: Progress) -> Progress
 }
 
 // Stores the output field of the current unit if the output is signed.
-fn place_field_if_signed(rule: Rule, p: Progress, l: Layout, memory: &mut [u8], c: Cursor) -> Cursor
+fn store_field_if_signed(rule: Rule, p: Progress, l: Layout, memory: &mut [u8], c: Cursor) -> Cursor
     requires { ⌜ Room rule p l c (length (now memory)) (length (fieldDue rule p)) ⌝ }
     ensures { λ r. ⌜ Stored l c (now (memory .entry)) (fieldDue rule p) r (now (memory .exit)) ⌝ }
 {
@@ -111,7 +111,7 @@ pub(crate) fn settle_if_whole(
             cursor: c,
         };
     }
-    let cursor = place_field_if_signed(rule, p, l, memory, c);
+    let cursor = store_field_if_signed(rule, p, l, memory, c);
     FeedResult {
         progress: next_unit(rule, p),
         cursor,

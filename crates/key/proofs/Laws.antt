@@ -5,7 +5,6 @@ use Prim.Native.Nat.{ℕ, _+_, _-_, _*_, _/_, _%_, _≤_, _<_}
 use native.Mathlib.Nat.{mul-le-mul-left, div-add-mod'}
 use native.Mathlib.Omega.{arith}
 use lib.Dec.{eqb, ltb}
-use lib.ListN.{length}
 use borrow.Author.Tests.{eqb-true, eqb-false, lt-ltb, le-ltb, ltb-true, ltb-false}
 use Rattle.field.specs.declared.Domain.{Domain}
 use Rattle.field.specs.declared.ProtectionField.{ProtectionField}
@@ -22,7 +21,6 @@ use Rattle.key.specs.declared.Signature.{Signature}
 use Rattle.key.specs.declared.Configuration.{Configuration}
 use Rattle.key.specs.declared.Key.{Key}
 use Rattle.slot.specs.declared.Slot.{Slot}
-use Rattle.slot.specs.declared.Slot.the-variants.{Empty}
 use Rattle.key.specs.declared.Outcome.{Outcome}
 use Rattle.key.specs.declared.Outcome.the-variants.{Done, Refused}
 use Rattle.key.specs.declared.Refusal.{Refusal}
@@ -31,7 +29,6 @@ use Rattle.key.specs.Numbers.{refuse}
 use Rattle.key.specs.Configuring.{memoryLimit, badBlockSize, badSeed, badDomain, escapesAlways, sameSize, bothSigned, signatureAnswer, layoutAnswer, configureAnswer}
 use Rattle.key.specs.Inner.Admission.{GoodDomain}
 use Rattle.key.specs.Numbers.{then}
-use Rattle.slot.specs.Slots.{keep}
 use Rattle.key.specs.Keys.{freshKey, withSlot, configureResultBy, configureResult, checkResult, CameFromCalls, accepts, keyValid, KeyValid}
 use Rattle.key.specs.Streams.{streamLength}
 use Rattle.key.specs.Inner.Admission.{Sized}

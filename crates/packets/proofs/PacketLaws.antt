@@ -33,7 +33,7 @@ use Rattle.engine.specs.declared.Progress.{Progress}
 use Rattle.engine.specs.Streams.{inBlock, inUnit}
 use Rattle.engine.specs.Feeding.{begun, fed, emitted}
 use Rattle.engine.specs.declared.FeedResult.{FeedResult}
-use Rattle.engine.specs.Positions.{Aligned, inStep, taken, written}
+use Rattle.engine.specs.Positions.{inStep, taken, written}
 use Rattle.engine.specs.Inner.Parts.{countLimit, InStep, Feedable, Feeds}
 use Rattle.engine.proofs.Arriving.{field-small}
 use Rattle.engine.proofs.Feeding.{fed-append}

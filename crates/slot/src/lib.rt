@@ -30,7 +30,7 @@ pub const GUARD_ERROR: u32 = 1;
 
 pub const REFERENCE_ERROR: u32 = 2;
 
-pub const APPLICATION_ERROR: u32 = 3;
+const APPLICATION_ERROR: u32 = 3;
 
 // Returns the error type of a wrong tag.
 fn error_type(tag: Tag) -> u32

@@ -32,8 +32,8 @@ use Rattle.slot.specs.declared.Slot.{Slot}
 use Rattle.slot.specs.declared.Slot.the-variants.{Empty}
 use Rattle.engine.specs.declared.Rule.{Rule}
 use Rattle.engine.specs.declared.Progress.{Progress}
-use Rattle.engine.specs.Streams.{inUnit, outUnit}
-use Rattle.engine.specs.Feeding.{begun, emitted}
+use Rattle.engine.specs.Streams.{outUnit}
+use Rattle.engine.specs.Feeding.{begun}
 use Rattle.engine.specs.declared.FeedResult.{FeedResult}
 use Rattle.engine.specs.Inner.Parts.{Feedable, Feeds}
 use Rattle.engine.proofs.FeedLaws.{room-at, going-start, going-turn, going-end, part-feedable}

@@ -1,4 +1,4 @@
--- A layout that answers 0 may be walked and moved.
+-- A sound layout may be walked, and its bytes may be moved.
 use mathlib.Core.Path.{_≡_, sym, _∙_}
 use Prim.Native.Nat.{ℕ, _*_, _-_, _≤_}
 use Rattle.layout.specs.declared.Layout.{Layout}

@@ -1,2 +1,2 @@
--- Laws.
+-- Laws that the proofs of this program cite.
 pub mod Fits

@@ -8,7 +8,7 @@
 --   Admitted k memoryLength offset dataLength    all that an accepted open tells
 use mathlib.Core.Path.{_≡_}
 use mathlib.Core.Bool.{true}
-use Prim.Native.Nat.{ℕ, _+_, _*_, _%_, _^_, _≤_}
+use Prim.Native.Nat.{ℕ, _+_, _*_, _%_, _≤_}
 use Rattle.field.specs.declared.Domain.{Domain}
 use Rattle.field.specs.Domains.{blockSizeMin, blockSizeMax, blockSizeStep, guardTypeMax, seedOnes, signed}
 use Rattle.field.specs.Fields.{fieldBytes}

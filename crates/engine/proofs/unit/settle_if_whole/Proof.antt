@@ -10,8 +10,8 @@ unit-size-requires c κs = search needs
 returns : tie.Need-returns
 returns c = settled-partial _ _ _ _ _ _ (c .before .before .unit-size .ensures .0) (c .if1 .taken) (c .before .before .before .before .before .pre .1 .stands)
 
-place-field-if-signed-requires : tie.Need-place-field-if-signed-requires
-place-field-if-signed-requires c κs =
+store-field-if-signed-requires : tie.Need-store-field-if-signed-requires
+store-field-if-signed-requires c κs =
     let s = c .before .before .before .before .before .before in
     room-due _ _ _ _ (s .args .memory .now) _ _ (c .before .before .before .unit-size .ensures .0) (c .before .if1 .left) (s .pre .1)
 
@@ -26,9 +26,9 @@ same-length c = search needs
 returns-2 : tie.Need-returns-2
 returns-2 c =
     let u = c .before .before .before .before .before .before .before in
-    settled-whole _ _ _ _ _ _ (u .unit-size .ensures .0) (c .before .before .before .before .before .if1 .left) _ _ _ (c .next-unit .ensures) (c .before .before .before .place-field-if-signed .ensures)
+    settled-whole _ _ _ _ _ _ (u .unit-size .ensures .0) (c .before .before .before .before .before .if1 .left) _ _ _ (c .next-unit .ensures) (c .before .before .before .store-field-if-signed .ensures)
 
 pub settle-if-whole-spec : {M : Type 1} → statement M
 settle-if-whole-spec =
     tie.close
-    (tie.spec unit-size-requires returns place-field-if-signed-requires next-unit-requires same-length returns-2)
+    (tie.spec unit-size-requires returns store-field-if-signed-requires next-unit-requires same-length returns-2)

@@ -7,7 +7,7 @@ use Prim.Native.Nat.{_+_, _*_, _-_, _<_, _≤_}
 use native.Mathlib.Omega.{arith}
 use borrow.Author.Needs.{needs}
 use lib.ListN.{length, drop, getD, length-map}
-use Rattle.layout.specs.Pieces.{pieceOf, pieces}
+use Rattle.layout.specs.Pieces.{pieces}
 use Rattle.layout.specs.Answers.{share, sharesWith, someShare}
 use Rattle.layout.specs.Inner.Steps.{noPiece}
 use Rattle.layout.proofs.AnswerLaws.{share-next, share-all, with-met, with-passed, with-all, length-pieces, meet-share}

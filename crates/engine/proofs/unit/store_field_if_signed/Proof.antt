@@ -1,8 +1,8 @@
 use mathlib.Core.Path.{sym, _∙_}
 use Rattle.layout.proofs.CursorLaws.{stored-nothing}
 use borrow.Author.Needs.{needs}
-use Rattle.engine.proofs.unit.place_field_if_signed.Statement.{statement}
-use Rattle.engine.proofs.unit.place_field_if_signed.Tie as tie
+use Rattle.engine.proofs.unit.store_field_if_signed.Statement.{statement}
+use Rattle.engine.proofs.unit.store_field_if_signed.Tie as tie
 
 signed-requires : tie.Need-signed-requires
 signed-requires c κs = search needs
@@ -31,8 +31,8 @@ returns c =
 returns-2 : tie.Need-returns-2
 returns-2 c = rw (sym (c .before .signed .ensures) ∙ c .if1 .left) (stored-nothing _ _ _ (c .before .before .before .pre .stands))
 
-pub place-field-if-signed-spec : {M : Type 1} → statement M
-place-field-if-signed-spec =
+pub store-field-if-signed-spec : {M : Type 1} → statement M
+store-field-if-signed-spec =
     tie.close
     (tie.spec
     signed-requires
