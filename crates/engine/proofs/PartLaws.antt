@@ -29,17 +29,17 @@ use Rattle.engine.specs.Inner.Parts.{streamLimit, sideTaken, dataTaken, 
 use Rattle.engine.proofs.Arriving.{field-small}
 
 -- A guard after b and then xs is the guard after b ∷ xs.
-guard-more : (t : ℕ) (works : Bool) (g : RunningGuard) (b : ℕ) (xs : List ℕ)
-    → cond works (advanced t (cond works (stepped t g b) g) xs) (cond works (stepped t g b) g) ≡ cond works (advanced t g (b ∷ xs)) g
+guard-more : (t : ℕ) (computes : Bool) (g : RunningGuard) (b : ℕ) (xs : List ℕ)
+    → cond computes (advanced t (cond computes (stepped t g b) g) xs) (cond computes (stepped t g b) g) ≡ cond computes (advanced t g (b ∷ xs)) g
 unfolding advanced
 guard-more t true g b xs = refl
 guard-more t false g b xs = refl
 
 -- A side after b and then xs is the side after b ∷ xs.
-side-more : (d : Domain) (works : Bool) (s : Side) (b : ℕ) (xs : List ℕ) → sideTaken d works (sideAfter d works s b) xs ≡ sideTaken d works s (b ∷ xs)
-side-more d works s b xs =
+side-more : (d : Domain) (computes : Bool) (s : Side) (b : ℕ) (xs : List ℕ) → sideTaken d computes (sideAfter d computes s b) xs ≡ sideTaken d computes s (b ∷ xs)
+side-more d computes s b xs =
     let e : s .at + 1 + length xs ≡ s .at + suc (length xs) = omega arith in
-    λ i. record { index = s .index; at = e i; guard = guard-more (d .«guard_type») works (s .guard) b xs i }
+    λ i. record { index = s .index; at = e i; guard = guard-more (d .«guard_type») computes (s .guard) b xs i }
 
 -- Taking the data byte b and then xs is taking b ∷ xs.
 data-more : (r : Rule) (p : Progress) (b : ℕ) (xs : List ℕ) → dataTaken r (dataTaken r p (b ∷ [])) xs ≡ dataTaken r p (b ∷ xs)

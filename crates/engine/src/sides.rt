@@ -86,14 +86,14 @@ pub(crate) fn block_start(d: Domain, index: u64) -> Side
 // because the compiler would write the whole progress to memory for it.
 pub(crate) fn advance_if_needed(
     d: Domain,
-    works: bool,
+    computes: bool,
     guard: RunningGuard,
     part: &[u8],
 ) -> RunningGuard
     requires { ⌜ length (now part) ≤ partLimit ⌝ }
-    ensures { λ r. ⌜ r ≡ inner.guardTaken d works guard (now (part .entry)) ⌝ }
+    ensures { λ r. ⌜ r ≡ inner.guardTaken d computes guard (now (part .entry)) ⌝ }
 {
-    if works {
+    if computes {
         guard::advance(d.guard_type, guard, part)
     } else {
         guard
