@@ -32,11 +32,11 @@
  * The caller's duties. No proof can see across the C API, so these are left to the caller:
  *   - Each pointer points to as many bytes as the length beside it says. It may be null where that length is 0.
  *   - The bytes that a call writes overlap no other bytes lent to the same call.
- *   - While a call runs, nobody else touches the bytes lent to it.
+ *   - While a call runs, nobody else writes the bytes lent to it, and nobody else reads the bytes that it writes.
  *   - From open to finish or abandon, the same memory is lent with every packet, and between packets nobody else writes
  *     it. Each call gets the session that open, or the call before, returned.
- *   - The caller looks at each answer, and goes on with the key or session that the call returned. It may copy these
- *     structs, and changes nothing in them.
+ *   - The caller looks at each answer. After answer 0 it goes on with the key or session that the call returned, after
+ *     any other answer with the one that it passed. It may copy these structs, and changes nothing in them.
  * The calls keep no pointer, allocate nothing and have no state of their own, so any thread may make any of them.
  */
 #ifndef GAROALVA_H
