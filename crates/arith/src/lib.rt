@@ -1,4 +1,4 @@
-// The smaller and the larger of two numbers.
+// This crate returns the smaller or the larger of two numbers.
 ghost use mathlib.Core.Path.{_≡_};
 ghost use Prim.Native.Nat as nat;
 

@@ -1,5 +1,5 @@
--- The three cases of a C struct: it came from these calls, it is valid but came from elsewhere, or it is not valid. And the conversion
--- to C structs and back.
+-- The three cases of a C struct: it came from these calls, it is valid but came from elsewhere, or it is not valid. And
+-- the conversion to C structs and back.
 --
 --   ActsAs k key, NoKey k                   a C key stands for a key; it is none
 --   SessionActsAs s session, NoSession s    the same of a C session

@@ -1,4 +1,4 @@
-// The calls on a key: fresh, configure, send, receive, check.
+// These are the calls on a key: fresh, configure, send, receive, check.
 ghost use mathlib.Core.Path.{_≡_};
 ghost use lib.ListN.{length};
 ghost use Rattle.key.specs.Keys.{freshKey, withSlot};

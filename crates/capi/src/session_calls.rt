@@ -1,4 +1,4 @@
-// The calls of a receive by packets: open, packet, finish, abandon.
+// These are the calls of a receive by packets: open, packet, finish, abandon.
 ghost use mathlib.Core.Path.{_≡_};
 ghost use lib.ListN.{length};
 ghost use Rattle.capi.specs.Calls as calls;

@@ -1,4 +1,4 @@
-// Keys and sessions as the structs that C sees: conversion to and from them, and which of them are valid.
+// This crate has keys and sessions as the structs that C sees. It converts to and from them, and tests which are valid.
 mod convert;
 mod validate;
 

@@ -1,4 +1,4 @@
-// The two sides of a transfer: their block and unit sizes, and their running guards.
+// This module has the two sides of a transfer: their block and unit sizes, and their running guards.
 ghost use mathlib.Core.Path.{_≡_};
 ghost use Prim.Native.Nat.{_+_, _≤_, _<_, _^_};
 ghost use lib.ListN.{length};

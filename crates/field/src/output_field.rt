@@ -1,4 +1,4 @@
-// The output field: which bytes are copied, and the bytes themselves.
+// Makes the output field: finds which bytes are copied, and copies or generates each.
 ghost use mathlib.Core.Path.{_≡_};
 ghost use mathlib.Core.Bool.{cond};
 ghost use Prim.Native.Nat.{_+_, _*_, _/_, _%_, _≤_, _<_};

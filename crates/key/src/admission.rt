@@ -1,4 +1,4 @@
-// The tests that admit a transfer or an open.
+// Admits a transfer or an open, or refuses it.
 ghost use mathlib.Core.Path.{_≡_};
 ghost use Prim.Native.Nat.{_+_};
 ghost use lib.Dec.{ltb};

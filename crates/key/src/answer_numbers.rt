@@ -1,4 +1,4 @@
-// The numbers of the answers in 01's table.
+// Numbers the answers as 01's table does.
 ghost use mathlib.Core.Path.{_≡_};
 ghost use Rattle.key.specs.Numbers as numbers;
 use crate::Outcome;

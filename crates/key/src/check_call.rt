@@ -1,4 +1,4 @@
-// Check, and keeping the first error of a transfer.
+// Check returns the recorded error, and `keep_error` records the first error of a transfer.
 ghost use mathlib.Core.Path.{_≡_};
 ghost use Rattle.key.specs.Keys as keys;
 ghost use Rattle.slot.specs.Slots as slots;

@@ -1,4 +1,5 @@
-// Keys: a layout over one lent memory, two domains, masks, and one error slot; and the answers that 01 numbers.
+// A key holds a layout over one lent memory, two domains, masks, and one error slot. The answers are those that 01
+// numbers.
 mod admission;
 mod answer_numbers;
 mod check_call;

@@ -1,4 +1,4 @@
-// The rules for signatures: answers 1 to 4.
+// Tests signatures by the rules of answers 1 to 4.
 ghost use mathlib.Core.Path.{_≡_};
 ghost use Rattle.key.specs.Configuring as answers;
 use crate::COPY_MASK_GIVEN;

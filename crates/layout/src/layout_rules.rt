@@ -1,4 +1,4 @@
-// The rules for layouts: answers 5, 6 and 7, and the test of an untrusted layout.
+// Tests layouts by the rules of answers 5, 6 and 7, and validates an untrusted layout.
 ghost use mathlib.Core.Path.{_≡_};
 ghost use mathlib.Core.Bool.{cond};
 ghost use Prim.Native.Nat.{_*_, _<_, _≤_, _-_, _^_, min, max};

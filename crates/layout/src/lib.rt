@@ -1,4 +1,4 @@
-// Layouts: which memory bytes a transfer runs over, and in what order (01, "Layouts").
+// A layout says which memory bytes a transfer runs over, and in what order (01, "Layouts").
 mod cursor;
 mod layout_rules;
 mod moves;

@@ -1,4 +1,4 @@
-// The sizes of a layout, and where its pieces start.
+// Computes the sizes of a layout, and where its pieces start.
 ghost use mathlib.Core.Path.{_≡_};
 ghost use Prim.Native.Nat.{_+_, _*_, _≤_, _<_, _^_};
 ghost use Rattle.layout.specs.Pieces as pieces;

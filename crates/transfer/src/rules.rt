@@ -1,4 +1,4 @@
-// The rule of a transfer: which domain is the input.
+// Makes the rule of a transfer: it says which domain is the input.
 ghost use mathlib.Core.Path.{_≡_};
 ghost use Rattle.transfer.specs.Rules as rules;
 use engine::Rule;

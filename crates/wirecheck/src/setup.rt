@@ -1,5 +1,5 @@
-// The configuration of difcheck: the wire domain of 01's case A, no memory signature, all check bits, and one entry
-// over 32,768 bytes of memory.
+// Makes the configuration of difcheck: the wire domain of 01's case A, no memory signature, all check bits, and one
+// entry over 32,768 bytes of memory.
 ghost use mathlib.Core.Path.{_≡_};
 ghost use Rattle.wirecheck.specs.Checking as checks;
 use field::Domain;
