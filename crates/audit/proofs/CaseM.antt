@@ -1,5 +1,4 @@
--- These laws prove case M: its calls return 01's numbers, and its list of calls can be made and follows the packet
--- rule.
+-- These laws prove case M: its calls return 01's numbers, and its lists of calls can be made and follow the packet rule.
 use mathlib.Core.Path.{_≡_, refl}
 use mathlib.Core.Bool.{Bool, true, false, _&&_}
 use mathlib.Core.List.{List, [], _∷_}
@@ -26,17 +25,17 @@ use Rattle.engine.specs.Streams.{blockSize, fieldSize}
 use Rattle.engine.specs.Transfers.{slotOf, errorBy}
 use Rattle.engine.specs.Feeding.{checksGuard, makesGuard, arrived, errorDue, fieldMade, settled, fed, emitted}
 use Rattle.packets.specs.Sessions.{openResult, packetAnswer, packetResult, memoryAfterPacket, finishAnswer}
-use Rattle.packets.specs.Lists.{played, AllBytes}
+use Rattle.packets.specs.Lists.{Request, played, packetOf, AllBytes}
 use Rattle.packets.proofs.Following.{played-made, packets-follow-the-rule}
 use Rattle.audit.specs.Cases.{keyOver, domainA}
-use Rattle.audit.specs.CaseM.{part, packetsM, sessionM, memoryM, all, CaseM, CaseMFollows}
+use Rattle.audit.specs.CaseM.{part, requestsM, abandonedM, sessionM, memoryM, all, CaseM, MadeAndFollows, CaseMFollows}
 
 -- Case M holds, since both of its sides compute to the same numbers.
 pub case-M : CaseM
 unfolding timesX crcByte stepped guardValue referenceTag bytesOf fieldOf computedField escaped checkedMask differs maskOf differing firstBad judged agreed copyMask merged outputField repeats numbersFrom placesOf size scattered someCountZero malformed someBeyond sharesWith someShare verdictOn signatureAnswer configureAnswer streamLength blockSize fieldSize slotOf errorBy checksGuard makesGuard arrived errorDue fieldMade settled fed emitted packetAnswer packetResult memoryAfterPacket finishAnswer played all
-case-M = refl
+case-M = (refl, refl)
 
--- ---- demand 3 for this list
+-- ---- demand 3 for these lists
 
 -- The test `small` is true if all numbers of a list are below 256.
 small : List ℕ → Bool
@@ -54,27 +53,32 @@ small-bytes [] e i = omega arith
 small-bytes (x ∷ xs) e zero = ltb-true x 256 (both (ltb x 256) (small xs) e .0)
 small-bytes (x ∷ xs) e (suc i) = small-bytes xs (both (ltb x 256) (small xs) e .1) i
 
--- Every packet of case M is bytes.
-packets-small : AllBytes packetsM
-unfolding small
-packets-small zero = small-bytes [] refl
-packets-small (suc zero) = small-bytes (part 0 9) refl
-packets-small (suc (suc zero)) = small-bytes (part 0 24) refl
-packets-small (suc (suc (suc zero))) = small-bytes [] refl
-packets-small (suc (suc (suc (suc zero)))) = small-bytes (part 9 7) refl
-packets-small (suc (suc (suc (suc (suc zero))))) = small-bytes (part 16 16) refl
-packets-small (suc (suc (suc (suc (suc (suc i)))))) = small-bytes [] refl
+-- The test `all-small` is true if all packets that are asked for are bytes.
+all-small : List Request → Bool
+all-small [] = true
+all-small (r ∷ rs) = small (packetOf r) && all-small rs
+
+small-requests : (rs : List Request) → all-small rs ≡ true → AllBytes rs
+unfolding all-small small
+small-requests [] e i = small-bytes [] refl
+small-requests (r ∷ rs) e zero = small-bytes (packetOf r) (both (small (packetOf r)) (all-small rs) e .0)
+small-requests (r ∷ rs) e (suc i) = small-requests rs (both (small (packetOf r)) (all-small rs) e .1) i
 
 -- The open of case M is accepted.
 opens : openResult (keyOver 16 domainA 0xFF) 16 (record { 0 = 0 }) 16 .outcome ≡ Done
 unfolding someCountZero malformed someBeyond sharesWith someShare verdictOn signatureAnswer configureAnswer repeats size streamLength openAnswer
 opens = refl
 
--- The list of case M can be made, and demand 3 states that it follows the packet rule.
-pub case-M-follows : CaseMFollows
-case-M-follows =
-    let m = played-made sessionM memoryM packetsM packets-small in (
+-- A list of packets can be made, and demand 3 states that it follows the packet rule.
+made-and-follows : (requests : List Request) → AllBytes requests → MadeAndFollows requests
+made-and-follows requests b =
+    let m = played-made sessionM memoryM requests b in (
       m,
       packets-follow-the-rule (keyOver 16 domainA 0xFF) memoryM (record { 0 = 0 }) 16 (came-configured freshKey 16 _ came-fresh)
-          (openResult (keyOver 16 domainA 0xFF) 16 (record { 0 = 0 }) 16) refl opens (played sessionM memoryM packetsM) m,
+          (openResult (keyOver 16 domainA 0xFF) 16 (record { 0 = 0 }) 16) refl opens (played sessionM memoryM requests) m,
     )
+
+-- Both lists of case M can be made and follow the packet rule.
+pub case-M-follows : CaseMFollows
+unfolding small all-small
+case-M-follows = (made-and-follows requestsM (small-requests requestsM refl), made-and-follows abandonedM (small-requests abandonedM refl))

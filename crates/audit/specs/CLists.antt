@@ -12,6 +12,7 @@ use lib.ListN.{length}
 use Rattle.guard.specs.Guards.{Bytes}
 use Rattle.key.specs.declared.Key.{Key}
 use Rattle.key.specs.Keys.{CameFromCalls}
+use Rattle.packets.specs.Sessions.{openedSession}
 use Rattle.packets.specs.PacketRule.{Call, Follows}
 use Rattle.cstructs.specs.declared.CSession.{CSession}
 use Rattle.cstructs.specs.CStructs.{keyToC}
@@ -70,7 +71,7 @@ toC (Call.abandon answer) = CCall.abandon (abandonResultToC answer)
 pub record CFollows (k : Key) (memory : List ℕ) (offset dataLength : ℕ) (calls : List CCall) : Type 0 where
   pub below : List Call
   pub same : calls ≡ map toC below
-  pub follows : Follows k memory offset dataLength [] memory below
+  pub follows : Follows k memory offset dataLength [] memory (openedSession k (record { 0 = offset }) dataLength) below
 
 -- Demand 3 for C.
 abbrev pub CDemand3 : Type 0

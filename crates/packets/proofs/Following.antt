@@ -1,11 +1,14 @@
 -- These laws prove demand 3: every list of calls on a session follows the packet rule.
 use mathlib.Core.Path.{_≡_, refl, sym, ap, _∙_}
+use mathlib.Core.Bool.{Bool, true, false}
 use mathlib.Core.List.{List, [], _∷_, _++_}
 use Prim.Native.Nat.{ℕ, suc, _+_, _≤_}
 use native.Mathlib.Nat.{zero-mul}
 use native.Mathlib.Omega.{arith}
+use lib.Dec.{ltb}
 use lib.ListN.{length, drop, length-append}
 use lib.Seq.{drop-drop}
+use borrow.Author.Tests.{ltb-false}
 use Rattle.guard.specs.Guards.{Bytes}
 use Rattle.layout.specs.declared.offset.LayoutOffset.{LayoutOffset}
 use Rattle.layout.specs.Pieces.{places}
@@ -16,6 +19,8 @@ use Rattle.slot.specs.declared.Slot.the-variants.{Empty}
 use Rattle.key.specs.declared.Outcome.{Outcome}
 use Rattle.key.specs.declared.Outcome.the-variants.{Done, Refused}
 use Rattle.key.specs.declared.Refusal.{Refusal}
+use Rattle.key.specs.declared.Refusal.the-variants.{BytesToCome}
+use Rattle.key.specs.Numbers.{refuse}
 use Rattle.key.specs.Keys.{CameFromCalls}
 use Rattle.key.specs.Streams.{streamLength}
 use Rattle.key.specs.Admitting.{openAnswer}
@@ -32,14 +37,14 @@ use Rattle.packets.specs.declared.OpenResult.{OpenResult}
 use Rattle.packets.specs.declared.PacketResult.{PacketResult}
 use Rattle.packets.specs.declared.FinishResult.{FinishResult}
 use Rattle.packets.specs.declared.AbandonResult.{AbandonResult}
-use Rattle.packets.specs.Sessions.{ruleOf, recorded, endedKey, SessionFromCalls, packetAnswer, withProgress, packetResultBy, packetResult, memoryAfterPacket, finishAnswer, finishResultBy, finishResult, abandonResult}
-use Rattle.packets.specs.PacketRule.{Call, packetRule, finishRule, Stands, Accepted, Kept, Early, Ended, Follows}
+use Rattle.packets.specs.Sessions.{sessionAfter, ruleOf, recorded, endedKey, SessionFromCalls, packetAnswer, withProgress, packetResultBy, packetResult, memoryAfterPacket, finishAnswer, finishResultBy, finishResult, abandonResult}
+use Rattle.packets.specs.PacketRule.{Call, packetRule, finishRule, Stands, Accepted, HandedBack, Kept, Early, Ended, Follows}
 use Rattle.packets.specs.PacketRule.Call.{packet, finish}
-use Rattle.packets.specs.Lists.{Made, played, AllBytes}
+use Rattle.packets.specs.Lists.{Made, Request, unlessDone, played, EveryListIsMade}
 use Rattle.packets.specs.Demand3.{Demand3}
-use Rattle.transfer.specs.Transferring.{receiveResult}
+use Rattle.transfer.specs.Transferring.{becomes, receiveResult}
 use Rattle.packets.proofs.PacketLaws.{answer-0, finish-done, taken-all, bytes-append, packet-told, session-begun, some-unit}
-use Rattle.packets.proofs.RuleLaws.{sessionAt, opened-so, session-at, written-is, stands-at, totals-at}
+use Rattle.packets.proofs.RuleLaws.{opened-so, session-at, written-is, stands-at, totals-at}
 
 -- ---- the result of a call, by its outcome
 
@@ -93,11 +98,20 @@ finishing-outcome s = go (finishAnswer s)
 module _ (k : Key) (atOpen : List ℕ) (offset : LayoutOffset) (dataLength : ℕ) (c : CameFromCalls k) (o : openAnswer k (length atOpen) (offset .0) dataLength ≡ Done) where
   -- The session `at came` is the one after the bytes `came`.
   at : List ℕ → Session
-  at came = sessionAt k atOpen offset dataLength c o came
+  at came = sessionAfter k offset dataLength came
 
   -- The bytes `shown came` are memory after the bytes `came`.
   shown : List ℕ → List ℕ
   shown came = scattered atOpen (drop (offset .0) (places (k .layout))) (emitted (receiveRule (k .signature)) (begun (receiveRule (k .signature)) Empty) came)
+
+  -- If the packet rule accepts a finish, all bytes have come.
+  finish-whole : (came : List ℕ) → finishRule k atOpen (offset .0) dataLength came ≡ Done → length came ≤ streamLength (k .signature .wire) dataLength
+      → length came ≡ streamLength (k .signature .wire) dataLength
+  finish-whole came e h = go (ltb (length came) (streamLength (k .signature .wire) dataLength)) refl e
+    where
+      go : (b : Bool) → ltb (length came) (streamLength (k .signature .wire) dataLength) ≡ b → refuse b BytesToCome Done ≡ Done → length came ≡ streamLength (k .signature .wire) dataLength
+      go false x z = omega (arith, h, ltb-false (length came) (streamLength (k .signature .wire) dataLength) x)
+      go true x z = let c : _≡_ {A = ℕ} 0 1 = cc in absurd (omega arith)
 
   module _ (came : List ℕ) (b : Bytes came) (h : length came ≤ streamLength (k .signature .wire) dataLength) where
     from-calls : SessionFromCalls (at came)
@@ -164,7 +178,8 @@ module _ (k : Key) (atOpen : List ℕ) (offset : LayoutOffset) (dataLength : ℕ
             taken = t;
             written = w;
             stands = stands-at k atOpen offset dataLength c o (came ++ bytes) more-bytes more-length;
-            session = session-at k atOpen offset dataLength c o (came ++ bytes) more-bytes more-length;
+            session = refl;
+            calls = session-at k atOpen offset dataLength c o (came ++ bytes) more-bytes more-length;
             whole = λ e. let z = totals-at k atOpen offset dataLength c o (came ++ bytes) more-bytes more-length e in (t ∙ z .0, w ∙ z .1);
           }
 
@@ -207,9 +222,14 @@ module _ (k : Key) (atOpen : List ℕ) (offset : LayoutOffset) (dataLength : ℕ
           let n = packet-next bytes answer after d (rw (es, en) at ea) (rw (es, en) at em) eo in
           (rw en (n .ruled), n)
 
+      -- A refused call hands back the session that it was given.
+      handed-back : (returned : Session) → returned ≡ at came → HandedBack k atOpen (offset .0) dataLength came s returned
+      unfolding at
+      handed-back returned e = record { same = e ∙ sym es; session = e; calls = rw e from-calls }
+
       -- A refused packet of a list follows the packet rule, and returns the session as it was.
       refused-call : (lent bytes : List ℕ) (answer : PacketResult) (after : List ℕ) (r : Refusal) → answer ≡ packetResult s (length lent) bytes → after ≡ memoryAfterPacket s lent bytes → answer .outcome ≡ Refused r
-          → (packetRule k atOpen (offset .0) dataLength came (length lent) (length bytes) ≡ Refused r) × Kept k atOpen (offset .0) dataLength came now r lent answer after × (answer .session ≡ at came)
+          → (packetRule k atOpen (offset .0) dataLength came (length lent) (length bytes) ≡ Refused r) × Kept k atOpen (offset .0) dataLength came now s r lent answer after × (answer .session ≡ at came)
       refused-call lent bytes answer after r ea em eo =
           let ea′ = rw es at ea in
           let e : packetAnswer (at came) (length lent) (length bytes) ≡ Refused r = sym (packet-result-outcome (at came) (length lent) bytes) ∙ (ap (λ (p : PacketResult). p .outcome) (sym ea′) ∙ eo) in
@@ -221,7 +241,7 @@ module _ (k : Key) (atOpen : List ℕ) (offset : LayoutOffset) (dataLength : ℕ
               written = ap (λ (p : PacketResult). p .written) a;
               untouched = em ∙ (rw es (memory-refused (at came) lent bytes r e));
               stands = rw (a, en) stands;
-              session = rw a from-calls;
+              back = handed-back (answer .session) (ap (λ (p : PacketResult). p .session) a);
             },
             ap (λ (p : PacketResult). p .session) a,
           )
@@ -234,21 +254,22 @@ module _ (k : Key) (atOpen : List ℕ) (offset : LayoutOffset) (dataLength : ℕ
 
       -- An early finish of a list follows the packet rule, and returns the session as it was.
       early-call : (answer : FinishResult) (r : Refusal) → answer ≡ finishResult s → answer .outcome ≡ Refused r
-          → (finishRule k atOpen (offset .0) dataLength came ≡ Refused r) × Early k atOpen (offset .0) dataLength came now r answer × (answer .session ≡ at came)
+          → (finishRule k atOpen (offset .0) dataLength came ≡ Refused r) × Early k atOpen (offset .0) dataLength came now s r answer × (answer .session ≡ at came)
       early-call answer r ea eo =
           let t = finish-told answer ea in
           let e : finishRule k atOpen (offset .0) dataLength came ≡ Refused r = sym (t .1) ∙ eo in
           let a : answer ≡ record { outcome = Refused r; key = at came .key; session = at came } = t .0 ∙ rw (finish-ruled ∙ e) in
-          (e, record { outcome = eo; stands = rw (a, en) stands; session = rw a from-calls }, ap (λ (p : FinishResult). p .session) a)
+          let back = ap (λ (p : FinishResult). p .session) a in
+          (e, record { outcome = eo; stands = rw (a, en) stands; back = handed-back (answer .session) back }, back)
 
       -- An accepted finish ends a list as the packet rule requires.
       finished-call : (answer : FinishResult) → answer ≡ finishResult s → answer .outcome ≡ Done
-          → (finishRule k atOpen (offset .0) dataLength came ≡ Done) × Ended k atOpen (offset .0) dataLength came now (answer .outcome) (answer .key)
+          → (finishRule k atOpen (offset .0) dataLength came ≡ Done) × (length came ≡ streamLength (k .signature .wire) dataLength) × Ended k atOpen (offset .0) dataLength came now (answer .outcome) (answer .key)
       finished-call answer ea eo =
           let t = finish-told answer ea in
           let e : finishRule k atOpen (offset .0) dataLength came ≡ Done = sym (t .1) ∙ eo in
           let a : answer ≡ record { outcome = Done; key = endedKey (at came); session = at came } = t .0 ∙ rw (finish-ruled ∙ e) in
-          (e, rw (a, en) ended)
+          (e, finish-whole came e h, rw (a, en) ended)
 
       -- An abandon ends a list as the packet rule requires.
       abandoned-call : (answer : AbandonResult) → answer ≡ abandonResult s → Ended k atOpen (offset .0) dataLength came now (answer .outcome) (answer .key)
@@ -256,8 +277,8 @@ module _ (k : Key) (atOpen : List ℕ) (offset : LayoutOffset) (dataLength : ℕ
 
   -- Every list of calls that is made after the bytes `came` follows the packet rule.
   follow : (came : List ℕ) → Bytes came → length came ≤ streamLength (k .signature .wire) dataLength → {s : Session} {now : List ℕ} {calls : List Call} → s ≡ at came → now ≡ shown came
-      → Made s now calls → Follows k atOpen (offset .0) dataLength came now calls
-  follow came b h es en Made.stops = Follows.none
+      → Made s now calls → Follows k atOpen (offset .0) dataLength came now s calls
+  follow came b h es en Made.stops = Follows.none h
   follow came b h es en (Made.accepted bytes answer after d ea em eo rest) =
       let n = accepted-call came b h es en bytes answer after d ea em eo in
       Follows.accepted (n .0) (n .1 .accepted) (follow (came ++ bytes) (n .1 .bytesNow) (n .1 .fits) (n .1 .session) (n .1 .memory) rest)
@@ -269,7 +290,7 @@ module _ (k : Key) (atOpen : List ℕ) (offset : LayoutOffset) (dataLength : ℕ
       Follows.early r (n .0) (n .1) (follow came b h (n .2) en rest)
   follow came b h es en (Made.finished answer ea eo) =
       let n = finished-call came b h es en answer ea eo in
-      Follows.finished (n .0) (n .1)
+      Follows.finished (n .0) (n .1) (n .2)
   follow came b h es en (Made.abandoned answer ea) = Follows.abandoned (abandoned-call came b h es en answer ea)
 
 -- Demand 3 holds.
@@ -281,26 +302,37 @@ packets-follow-the-rule k memory offset dataLength c answer e d calls m =
 
 -- ---- lists that can be made
 
-module _ {s : Session} {now : List ℕ} {calls : List Call} where
-  -- A list can begin with any packet of bytes, accepted or refused.
-  made-packet : (bytes : List ℕ) → Bytes bytes → (o : Outcome) → packetResult s (length now) bytes .outcome ≡ o
-      → Made (packetResult s (length now) bytes .session) (memoryAfterPacket s now bytes) calls → Made s now (packet now bytes (packetResult s (length now) bytes) (memoryAfterPacket s now bytes) ∷ calls)
-  made-packet bytes b Done e m = Made.accepted bytes (packetResult s (length now) bytes) (memoryAfterPacket s now bytes) b refl refl e m
-  made-packet bytes b (Refused r) e m =
-      let same : memoryAfterPacket s now bytes ≡ now = memory-refused s now bytes r (sym (packet-result-outcome s (length now) bytes) ∙ e) in
-      Made.refused now bytes (packetResult s (length now) bytes) (memoryAfterPacket s now bytes) r refl refl e (rw same at m)
+module _ (s : Session) (now bytes : List ℕ) (b : Bytes bytes) (calls : List Call) where
+  -- A list can begin with any packet of bytes that is lent the transfer's memory, accepted or refused.
+  made-packet : (o : Outcome) → packetResult s (length now) bytes .outcome ≡ o
+      → Made (packetResult s (length now) bytes .session) (becomes o now (memoryAfterPacket s now bytes)) calls
+      → Made s now (packet now bytes (packetResult s (length now) bytes) (memoryAfterPacket s now bytes) ∷ calls)
+  made-packet Done e m = Made.accepted bytes _ _ b refl refl e m
+  made-packet (Refused r) e m = Made.refused now bytes _ _ r refl refl e m
 
--- A list can end with a finish, accepted or refused.
-made-finish : {s : Session} {now : List ℕ} (o : Outcome) → finishResult s .outcome ≡ o → Made s now (finish (finishResult s) ∷ [])
-made-finish {s} Done e = Made.finished (finishResult s) refl e
-made-finish {s} (Refused r) e = Made.early (finishResult s) r refl e Made.stops
+  -- A list can begin with a packet that is lent any memory if it is refused, and else the transfer's.
+  made-lent : (lent : List ℕ) (o : Outcome) → packetAnswer s (length lent) (length bytes) ≡ o
+      → (let memory = becomes o lent now in let answer = packetResult s (length memory) bytes in let after = memoryAfterPacket s memory bytes in
+      Made (answer .session) (becomes (answer .outcome) now after) calls → Made s now (packet memory bytes answer after ∷ calls))
+  made-lent lent Done e m = made-packet (packetResult s (length now) bytes .outcome) refl m
+  made-lent lent (Refused r) e m =
+      let eo = packet-result-outcome s (length lent) bytes ∙ e in
+      Made.refused lent bytes _ _ r refl refl eo (rw eo at m)
 
--- The list of any packets and a finish can be made.
-pub played-made : (s : Session) (now : List ℕ) (packets : List (List ℕ)) → AllBytes packets → Made s now (played s now packets)
+-- A list can go on after a finish that is refused, and ends with one that is accepted.
+made-finish : (s : Session) (now : List ℕ) (calls : List Call) (o : Outcome) → finishResult s .outcome ≡ o → Made (finishResult s .session) now calls
+    → Made s now (finish (finishResult s) ∷ unlessDone o calls)
+made-finish s now calls Done e m = Made.finished (finishResult s) refl e
+made-finish s now calls (Refused r) e m = Made.early (finishResult s) r refl e m
+
+-- Every list of requests leads to a list of calls that can be made.
+pub played-made : EveryListIsMade
 unfolding played
-played-made s now [] b = made-finish (finishResult s .outcome) refl
-played-made s now (bytes ∷ more) b =
-    made-packet bytes (b 0) (packetResult s (length now) bytes .outcome) refl (played-made (packetResult s (length now) bytes .session) (memoryAfterPacket s now bytes) more (λ i. b (suc i)))
+played-made s now [] b = Made.stops
+played-made s now (Request.packet lent bytes ∷ more) b =
+    made-lent s now bytes (b 0) _ lent (packetAnswer s (length lent) (length bytes)) refl (played-made _ _ more (λ i. b (suc i)))
+played-made s now (Request.finish ∷ more) b = made-finish s now _ (finishResult s .outcome) refl (played-made (finishResult s .session) now more (λ i. b (suc i)))
+played-made s now (Request.abandon ∷ more) b = Made.abandoned (abandonResult s) refl
 
 -- ---- a caller that passes a whole stream in packets
 
@@ -308,10 +340,10 @@ module _ (k : Key) (atOpen : List ℕ) (offset : LayoutOffset) (dataLength : ℕ
     (came : List ℕ) (b : Bytes came) (h : length came ≤ streamLength (k .signature .wire) dataLength) where
   -- A packet within the wire stream returns the session after all bytes so far.
   pub next-session : (m : ℕ) → m ≡ k .«memory_length» → (bytes : List ℕ) → length came + length bytes ≤ streamLength (k .signature .wire) dataLength
-      → packetResult (sessionAt k atOpen offset dataLength c o came) m bytes .session ≡ sessionAt k atOpen offset dataLength c o (came ++ bytes)
+      → packetResult (sessionAfter k offset dataLength came) m bytes .session ≡ sessionAfter k offset dataLength (came ++ bytes)
   unfolding at
   next-session m e bytes l =
-      let s = sessionAt k atOpen offset dataLength c o came in
+      let s = sessionAfter k offset dataLength came in
       let t = taken-all s (came-valid k c) (opened-so k atOpen offset dataLength c o) came in
       let a : packetAnswer s m (length bytes) ≡ Done = sym (answer-0 s m (length bytes) e (length came) (streamLength (k .signature .wire) dataLength) (sym t) refl h (omega arith)) in
       ap (λ (p : PacketResult). p .session) (packet-result-done s m bytes a) ∙ session-next k atOpen offset dataLength c o came b h bytes
@@ -319,20 +351,20 @@ module _ (k : Key) (atOpen : List ℕ) (offset : LayoutOffset) (dataLength : ℕ
   -- After a packet within the wire stream that was lent the current memory, memory is that after all bytes so far.
   pub next-memory : (now : List ℕ) → now ≡ scattered atOpen (drop (offset .0) (places (k .layout))) (emitted (receiveRule (k .signature)) (begun (receiveRule (k .signature)) Empty) came)
       → length now ≡ k .«memory_length» → (bytes : List ℕ) → length came + length bytes ≤ streamLength (k .signature .wire) dataLength
-      → memoryAfterPacket (sessionAt k atOpen offset dataLength c o came) now bytes
+      → memoryAfterPacket (sessionAfter k offset dataLength came) now bytes
       ≡ scattered atOpen (drop (offset .0) (places (k .layout))) (emitted (receiveRule (k .signature)) (begun (receiveRule (k .signature)) Empty) (came ++ bytes))
   unfolding at shown
   next-memory now en e bytes l =
-      let s = sessionAt k atOpen offset dataLength c o came in
+      let s = sessionAfter k offset dataLength came in
       let t = taken-all s (came-valid k c) (opened-so k atOpen offset dataLength c o) came in
       let a : packetAnswer s (length now) (length bytes) ≡ Done = sym (answer-0 s (length now) (length bytes) e (length came) (streamLength (k .signature .wire) dataLength) (sym t) refl h (omega arith)) in
       memory-done s now bytes a ∙ rw en (memory-next k atOpen offset dataLength c o came b h bytes)
 
   -- Once all bytes have come, finish returns the same key as one receive.
   pub finish-key : length came ≡ streamLength (k .signature .wire) dataLength
-      → finishResult (sessionAt k atOpen offset dataLength c o came) .key ≡ receiveResult k atOpen came (offset .0) dataLength .key
+      → finishResult (sessionAfter k offset dataLength came) .key ≡ receiveResult k atOpen came (offset .0) dataLength .key
   finish-key e =
-      let s = sessionAt k atOpen offset dataLength c o came in
+      let s = sessionAfter k offset dataLength came in
       let t = taken-all s (came-valid k c) (opened-so k atOpen offset dataLength c o) came in
       ap (λ (f : FinishResult). f .key) (sym (finish-done s (length came) (streamLength (k .signature .wire) dataLength) (sym t) refl (omega arith) (endedKey s) refl))
-      ∙ stands-at k atOpen offset dataLength c o came b h .whole e .1
+      ∙ stands-at k atOpen offset dataLength c o came b h .whole e .2

@@ -33,8 +33,7 @@ use Rattle.engine.proofs.FeedLaws.{fed-after}
 use Rattle.transfer.specs.Rules.{receiveRule, outputOf}
 use Rattle.transfer.specs.Transferring.{receiveResult, memoryAfterReceive}
 use Rattle.transfer.proofs.Laws.{Whole, whole}
-use Rattle.packets.specs.declared.Session.{Session}
-use Rattle.packets.specs.Sessions.{SessionFromCalls}
+use Rattle.packets.specs.Sessions.{sessionAfter, SessionFromCalls}
 use Rattle.packets.specs.PacketRule.{shownAfter, Stands}
 use Rattle.packets.proofs.PacketLaws.{engine-ready, session-begun, some-unit, taken-all, bytes-append}
 
@@ -44,10 +43,6 @@ one-way i j u a b e h k =
     elim (decLt i j) [ yes l ↦ absurd (omega (arith, unit-within i j u l)) | no l ↦ elim (decLt j i) [ yes g ↦ absurd (omega (arith, unit-within j i u g)) | no g ↦ omega arith ] ]
 
 module _ (k : Key) (atOpen : List ℕ) (offset : LayoutOffset) (dataLength : ℕ) (c : CameFromCalls k) (o : openAnswer k (length atOpen) (offset .0) dataLength ≡ Done) where
-  -- The session `sessionAt came` is the one after the bytes `came`.
-  abbrev pub sessionAt : List ℕ → Session
-  sessionAt came = record { key = k; offset = offset; «data_length» = dataLength; progress = fed (receiveRule (k .signature)) (begun (receiveRule (k .signature)) Empty) came }
-
   -- The memory lent to an accepted open has the length that the key was configured with.
   pub lent-length : length atOpen ≡ k .«memory_length»
   lent-length = admitted k (length atOpen) (offset .0) dataLength (came-valid k c) o .lent
@@ -58,33 +53,33 @@ module _ (k : Key) (atOpen : List ℕ) (offset : LayoutOffset) (dataLength : ℕ
 
   module _ (came : List ℕ) (b : Bytes came) (h : length came ≤ streamLength (k .signature .wire) dataLength) where
     -- The session after bytes of the wire stream came from these calls.
-    pub session-at : SessionFromCalls (sessionAt came)
+    pub session-at : SessionFromCalls (sessionAfter k offset dataLength came)
     session-at = record { key = c; opened = opened-so; came = came; bytes = b; fits = h; progress = refl }
 
     -- The engine has reached the progress that the transfer rule states for the bytes `came`.
-    R : Reached (receiveRule (k .signature)) Empty came (sessionAt came .progress) (emitted (receiveRule (k .signature)) (begun (receiveRule (k .signature)) Empty) came)
-    R = reached-after (receiveRule (k .signature)) (engine-ready (sessionAt came) (came-valid k c) opened-so .matched) Empty came b .0
+    R : Reached (receiveRule (k .signature)) Empty came (sessionAfter k offset dataLength came .progress) (emitted (receiveRule (k .signature)) (begun (receiveRule (k .signature)) Empty) came)
+    R = reached-after (receiveRule (k .signature)) (engine-ready (sessionAfter k offset dataLength came) (came-valid k c) opened-so .matched) Empty came b .0
 
     -- The current unit is not whole.
-    begun-unit : sessionAt came .progress .input .at < inUnit (receiveRule (k .signature))
-    begun-unit = reached-after (receiveRule (k .signature)) (engine-ready (sessionAt came) (came-valid k c) opened-so .matched) Empty came b .1
+    begun-unit : sessionAfter k offset dataLength came .progress .input .at < inUnit (receiveRule (k .signature))
+    begun-unit = reached-after (receiveRule (k .signature)) (engine-ready (sessionAfter k offset dataLength came) (came-valid k c) opened-so .matched) Empty came b .1
 
     -- The whole units and the bytes of the current unit are the bytes that came.
-    counted : sessionAt came .progress .input .index * inUnit (receiveRule (k .signature)) + sessionAt came .progress .input .at ≡ length came
-    counted = taken-all (sessionAt came) (came-valid k c) opened-so came
+    counted : sessionAfter k offset dataLength came .progress .input .index * inUnit (receiveRule (k .signature)) + sessionAfter k offset dataLength came .progress .input .at ≡ length came
+    counted = taken-all (sessionAfter k offset dataLength came) (came-valid k c) opened-so came
 
     -- The number of whole units is the quotient of the bytes that came by the unit size.
-    units : sessionAt came .progress .input .index ≡ length came / inUnit (receiveRule (k .signature))
+    units : sessionAfter k offset dataLength came .progress .input .index ≡ length came / inUnit (receiveRule (k .signature))
     units =
         one-way _ _ (inUnit (receiveRule (k .signature))) _ (length came % inUnit (receiveRule (k .signature)))
-        (counted ∙ sym (div-add-mod' (length came) (inUnit (receiveRule (k .signature))))) begun-unit (mod-lt (length came) (some-unit (sessionAt came) (came-valid k c) opened-so))
+        (counted ∙ sym (div-add-mod' (length came) (inUnit (receiveRule (k .signature))))) begun-unit (mod-lt (length came) (some-unit (sessionAfter k offset dataLength came) (came-valid k c) opened-so))
 
     -- The bytes of the current unit are the remainder of the bytes that came by the unit size.
-    over : sessionAt came .progress .input .at ≡ length came % inUnit (receiveRule (k .signature))
+    over : sessionAfter k offset dataLength came .progress .input .at ≡ length came % inUnit (receiveRule (k .signature))
     over = omega (arith, counted, div-add-mod' (length came) (inUnit (receiveRule (k .signature))), ap (λ (i : ℕ). i * inUnit (receiveRule (k .signature))) units)
 
     -- As many bytes are written as 01's packet rule says.
-    pub written-is : written (receiveRule (k .signature)) (sessionAt came .progress) ≡ shownAfter (receiveRule (k .signature)) (length came)
+    pub written-is : written (receiveRule (k .signature)) (sessionAfter k offset dataLength came .progress) ≡ shownAfter (receiveRule (k .signature)) (length came)
     written-is =
         let r = receiveRule (k .signature) in
         rw (R .index, units, R .at, length-take (inBlock r) (R .left)) (omega (arith, over, R .under))
@@ -93,13 +88,13 @@ module _ (k : Key) (atOpen : List ℕ) (offset : LayoutOffset) (dataLength : ℕ
     shown-length : length (emitted (receiveRule (k .signature)) (begun (receiveRule (k .signature)) Empty) came) ≡ shownAfter (receiveRule (k .signature)) (length came)
     shown-length =
         let r = receiveRule (k .signature) in
-        let w = fed-after r (begun r Empty) (session-begun (sessionAt came) (came-valid k c) opened-so) (some-unit (sessionAt came) (came-valid k c) opened-so) came .2 in
+        let w = fed-after r (begun r Empty) (session-begun (sessionAfter k offset dataLength came) (came-valid k c) opened-so) (some-unit (sessionAfter k offset dataLength came) (came-valid k c) opened-so) came .2 in
         omega (arith, w, written-is, zero-mul (outUnit r))
 
     -- Feeding the bytes that came and the rest of the wire stream produces the transfer rule's output and first error.
     all : (rest : List ℕ) → Bytes rest → length (came ++ rest) ≡ streamLength (k .signature .wire) dataLength
         → Whole (receiveRule (k .signature)) (came ++ rest) dataLength (streamLength (k .signature .memory) dataLength)
-    all rest d e = whole (receiveRule (k .signature)) dataLength _ _ (engine-ready (sessionAt came) (came-valid k c) opened-so) (came ++ rest) (bytes-append came rest b d) e
+    all rest d e = whole (receiveRule (k .signature)) dataLength _ _ (engine-ready (sessionAfter k offset dataLength came) (came-valid k c) opened-so) (came ++ rest) (bytes-append came rest b d) e
 
     -- The bytes emitted so far are the first of the transfer rule's output, whatever bytes are still to come.
     shown-is : (rest : List ℕ) → Bytes rest → length (came ++ rest) ≡ streamLength (k .signature .wire) dataLength
@@ -111,11 +106,11 @@ module _ (k : Key) (atOpen : List ℕ) (offset : LayoutOffset) (dataLength : ℕ
         (sym (take-at (emitted r (begun r Empty) came) (emitted r (fed r (begun r Empty) came) rest) (shownAfter r (length came)) shown-length))
 
     -- The session's slot holds the transfer rule's first error of the whole units, whatever bytes are still to come.
-    error-is : (rest : List ℕ) → sessionAt came .progress .slot ≡ firstError (receiveRule (k .signature)) (came ++ rest) (length came / inUnit (receiveRule (k .signature)))
+    error-is : (rest : List ℕ) → sessionAfter k offset dataLength came .progress .slot ≡ firstError (receiveRule (k .signature)) (came ++ rest) (length came / inUnit (receiveRule (k .signature)))
     error-is rest =
         let r = receiveRule (k .signature) in
         let parts : came ++ rest ≡ R .past ++ (R .left ++ rest) = ap (λ (l : List ℕ). l ++ rest) (R .split) ∙ append-assoc (R .past) (R .left) rest in
-        R .error ∙ rw (parts, ← units) (sym (errors-first r (R .past) (R .left ++ rest) (sessionAt came .progress .input .index) (omega (arith, R .pastLength))))
+        R .error ∙ rw (parts, ← units) (sym (errors-first r (R .past) (R .left ++ rest) (sessionAfter k offset dataLength came .progress .input .index) (omega (arith, R .pastLength))))
 
     -- One receive of the bytes that came is accepted if they are the whole wire stream.
     answer-done : streamLength (k .signature .wire) dataLength ≤ length came → transferAnswer k (length atOpen) (offset .0) dataLength (length came) ≡ Done
@@ -124,15 +119,16 @@ module _ (k : Key) (atOpen : List ℕ) (offset : LayoutOffset) (dataLength : ℕ
 
     -- Memory and recorded error are those of 01's packet rule, whatever bytes are still to come.
     pub stands-at : Stands k atOpen (offset .0) dataLength came (scattered atOpen (drop (offset .0) (places (k .layout))) (emitted (receiveRule (k .signature)) (begun (receiveRule (k .signature)) Empty) came))
-        (keep (k .slot) (sessionAt came .progress .slot))
+        (keep (k .slot) (sessionAfter k offset dataLength came .progress .slot))
     unfolding memoryAfterReceive receiveResult
     stands-at = record {
+      fits = h;
       memory = λ rest d e. ap (scattered atOpen (drop (offset .0) (places (k .layout)))) (shown-is rest d e);
       error = λ rest d e. ap (keep (k .slot)) (error-is rest);
       whole = λ e.
           let w : Whole (receiveRule (k .signature)) came dataLength (streamLength (k .signature .memory) dataLength) = rw (append-nil came) at (all [] (λ i. omega arith) (ap length (append-nil came) ∙ e)) in
           let t : take (streamLength (k .signature .wire) dataLength) came ≡ came = take-all (streamLength (k .signature .wire) dataLength) came (omega arith) in
-          rw (answer-done (omega arith), t) (ap (scattered atOpen (drop (offset .0) (places (k .layout)))) (w .shown), ap (λ (s : Slot). withSlot k (keep (k .slot) s)) (w .error));
+          rw (answer-done (omega arith), t) (refl, ap (scattered atOpen (drop (offset .0) (places (k .layout)))) (w .shown), ap (λ (s : Slot). withSlot k (keep (k .slot) s)) (w .error));
     }
 
     -- Once all bytes have come, the totals are those of one receive.

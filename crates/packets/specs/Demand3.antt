@@ -26,4 +26,4 @@ Demand3 =
     → answer .outcome ≡ Done
     → (calls : List Call)
     → Made (answer .session) memory calls
-    → Follows k memory (offset .0) dataLength [] memory calls
+    → Follows k memory (offset .0) dataLength [] memory (answer .session) calls

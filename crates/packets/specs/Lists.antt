@@ -1,22 +1,25 @@
 -- Lists of calls as they are made: each call meets its contract on the session that the call before returned.
 --
 --   Made s now calls            the list can be made from session s with memory now
---   played s now packets        the list of these packets and then finish
---   AllBytes packets            every packet of the list is bytes
+--   Request                     what a caller asks for
+--   played s now requests       the list of calls that these requests lead to
+--   AllBytes requests           every packet of the list is bytes
+--   EveryListIsMade             each list that is played can be made
 use mathlib.Core.Path.{_≡_}
 use mathlib.Core.List.{List, [], _∷_}
 use Prim.Native.Nat.{ℕ}
 use lib.ListN.{length, getD}
 use Rattle.guard.specs.Guards.{Bytes}
+use Rattle.key.specs.declared.Outcome.{Outcome}
 use Rattle.key.specs.declared.Outcome.the-variants.{Done, Refused}
 use Rattle.key.specs.declared.Refusal.{Refusal}
+use Rattle.transfer.specs.Transferring.{becomes}
 use Rattle.packets.specs.declared.Session.{Session}
 use Rattle.packets.specs.declared.PacketResult.{PacketResult}
 use Rattle.packets.specs.declared.FinishResult.{FinishResult}
 use Rattle.packets.specs.declared.AbandonResult.{AbandonResult}
-use Rattle.packets.specs.Sessions.{packetResult, memoryAfterPacket, finishResult, abandonResult}
+use Rattle.packets.specs.Sessions.{packetAnswer, packetResult, memoryAfterPacket, finishResult, abandonResult}
 use Rattle.packets.specs.PacketRule.{Call}
-use Rattle.packets.specs.PacketRule.Call.{packet, finish, abandon}
 
 -- The equations are those that the functions ensure. An accepted packet was lent the transfer's memory as it is, a
 -- refused one any memory. An accepted finish or an abandon ends the list, and the list may also stop before.
@@ -28,34 +31,64 @@ pub data Made : Session → List ℕ → List Call → Type 0 where
       → after ≡ memoryAfterPacket s now bytes
       → answer .outcome ≡ Done
       → Made (answer .session) after calls
-      → Made s now (packet now bytes answer after ∷ calls)
+      → Made s now (Call.packet now bytes answer after ∷ calls)
   refused : {s : Session} {now : List ℕ} (lent bytes : List ℕ) (answer : PacketResult) (after : List ℕ) (r : Refusal)
       {calls : List Call}
       → answer ≡ packetResult s (length lent) bytes
       → after ≡ memoryAfterPacket s lent bytes
       → answer .outcome ≡ Refused r
       → Made (answer .session) now calls
-      → Made s now (packet lent bytes answer after ∷ calls)
+      → Made s now (Call.packet lent bytes answer after ∷ calls)
   early : {s : Session} {now : List ℕ} (answer : FinishResult) (r : Refusal) {calls : List Call}
       → answer ≡ finishResult s
       → answer .outcome ≡ Refused r
       → Made (answer .session) now calls
-      → Made s now (finish answer ∷ calls)
+      → Made s now (Call.finish answer ∷ calls)
   finished : {s : Session} {now : List ℕ} (answer : FinishResult)
       → answer ≡ finishResult s
       → answer .outcome ≡ Done
-      → Made s now (finish answer ∷ [])
+      → Made s now (Call.finish answer ∷ [])
   abandoned : {s : Session} {now : List ℕ} (answer : AbandonResult)
       → answer ≡ abandonResult s
-      → Made s now (abandon answer ∷ [])
+      → Made s now (Call.abandon answer ∷ [])
 
--- A list as a caller makes it: these packets one after the other, each lent the memory as it is, then finish.
-unfoldable pub played : (s : Session) (now : List ℕ) (packets : List (List ℕ)) → List Call
-played s now [] = finish (finishResult s) ∷ []
-played s now (bytes ∷ more) =
-    packet now bytes (packetResult s (length now) bytes) (memoryAfterPacket s now bytes)
-    ∷ played (packetResult s (length now) bytes .session) (memoryAfterPacket s now bytes) more
+-- What a caller asks for: a packet of these bytes that is lent this memory, a finish, or an abandon.
+pub data Request : Type 0 where
+  packet : (lent bytes : List ℕ) → Request
+  finish : Request
+  abandon : Request
 
--- Every packet of the list is bytes.
-abbrev pub AllBytes : (packets : List (List ℕ)) → Type 0
-AllBytes packets = (i : ℕ) → Bytes (getD packets i [])
+-- The calls after a finish: none if it was accepted.
+abbrev pub unlessDone : (outcome : Outcome) (calls : List Call) → List Call
+unlessDone Done calls = []
+unlessDone (Refused r) calls = calls
+
+-- The list of calls that these requests lead to. A packet that would be accepted is lent the transfer's memory as it is,
+-- since that is the caller's duty; one that would be refused is lent the memory of the request. The list ends with an
+-- accepted finish or an abandon, and requests after it are dropped.
+unfoldable pub played : (s : Session) (now : List ℕ) (requests : List Request) → List Call
+played s now [] = []
+played s now (Request.packet lent bytes ∷ more) =
+    let memory = becomes (packetAnswer s (length lent) (length bytes)) lent now in
+    let answer = packetResult s (length memory) bytes in
+    let after = memoryAfterPacket s memory bytes in
+    Call.packet memory bytes answer after ∷ played (answer .session) (becomes (answer .outcome) now after) more
+played s now (Request.finish ∷ more) =
+    let answer = finishResult s in
+    Call.finish answer ∷ unlessDone (answer .outcome) (played (answer .session) now more)
+played s now (Request.abandon ∷ more) = Call.abandon (abandonResult s) ∷ []
+
+-- The bytes of a request's packet.
+abbrev pub packetOf : (request : Request) → List ℕ
+packetOf (Request.packet lent bytes) = bytes
+packetOf Request.finish = []
+packetOf Request.abandon = []
+
+-- Every packet that is asked for is bytes.
+abbrev pub AllBytes : (requests : List Request) → Type 0
+AllBytes requests = (i : ℕ) → Bytes (packetOf (getD requests i Request.finish))
+
+-- Every list of requests leads to a list of calls that can be made, from any session and with any memory.
+abbrev pub EveryListIsMade : Type 0
+EveryListIsMade =
+    (s : Session) (now : List ℕ) (requests : List Request) → AllBytes requests → Made s now (played s now requests)

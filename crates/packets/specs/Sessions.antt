@@ -2,12 +2,13 @@
 --
 --   openedSession k offset dataLength           the session of an accepted open
 --   openResult k memoryLength offset dataLength what open returns
+--   withProgress s p                            the session with another progress
+--   sessionAfter k offset dataLength came       the session after some bytes
 --   ruleOf s, takenBy s, wireLength s           a session's rule, bytes so far, bytes of the whole transfer
 --   recorded s, endedKey s                      the recorded error; the key with it
 --   SessionFromCalls s                          the session came from these calls: 01's one premise
 --   SessionValid s, sessionValid s              the precondition of the calls, and its test
 --   packetAnswer s memoryLength n               packet's answer: 8, 12, or Done
---   withProgress s p                            the session with another progress
 --   packetResult s memoryLength bytes           what packet returns
 --   memoryAfterPacket s memory bytes            memory after it
 --   finishAnswer s                              finish's answer: 13, or Done
@@ -66,6 +67,16 @@ openResult k memoryLength offset dataLength = record {
   session = openedSession k offset dataLength;
 }
 
+-- The session with another progress.
+abbrev pub withProgress : (s : Session) (p : Progress) → Session
+withProgress s p = record { key = s .key; offset = s .offset; «data_length» = s .«data_length»; progress = p }
+
+-- The session after the bytes `came` since an accepted open: how far feeding them has got.
+abbrev pub sessionAfter : (k : Key) (offset : LayoutOffset) (dataLength : ℕ) (came : List ℕ) → Session
+sessionAfter k offset dataLength came =
+    let r = receiveRule (k .signature) in
+    withProgress (openedSession k offset dataLength) (fed r (begun r Empty) came)
+
 -- ---- what a session says
 
 -- The rule of the transfer.
@@ -121,10 +132,6 @@ unfoldable pub packetAnswer : (s : Session) (memoryLength n : ℕ) → Outcome
 packetAnswer s memoryLength n =
     refuse (not (eqb memoryLength (s .key .«memory_length»))) MemoryLength
     (refuse (ltb (wireLength s) (takenBy s + n)) LongPacket Done)
-
--- The session with another progress.
-abbrev pub withProgress : (s : Session) (p : Progress) → Session
-withProgress s p = record { key = s .key; offset = s .offset; «data_length» = s .«data_length»; progress = p }
 
 -- What packet returns for an outcome: the totals since open. A refused packet returns two zeros and the session as it
 -- was.

@@ -143,7 +143,7 @@ module _ (k : Key) (memory wire : List ℕ) (R : Receivable k (length memory) (l
       pub along-memory : now ≡ memoryAfterReceive k memory wire 0 (length wire / 2)
       along-memory =
           A .shown
-          ∙ (stands-at k memory (record { 0 = 0 }) (length wire / 2) (came k _ _ R) (open-done k _ _ R) (A .came) bytes-came short .whole all-came .0
+          ∙ (stands-at k memory (record { 0 = 0 }) (length wire / 2) (came k _ _ R) (open-done k _ _ R) (A .came) bytes-came short .whole all-came .1
           ∙ ap (λ (l : List ℕ). memoryAfterReceive k memory l 0 (length wire / 2)) all)
 
 -- ---- the answer
