@@ -16,22 +16,23 @@ use Rattle.key.specs.declared.Refusal.the-variants.{BadDomain, EscapeTag, CopyM
 use Rattle.key.specs.Numbers.{number, refusalNumber}
 use Rattle.key.specs.Admitting.{openAnswer}
 use Rattle.key.specs.Configuring.{configureAnswer}
-use Rattle.key.specs.Keys.{freshKey, configureResult, configureResultBy, checkResult}
+use Rattle.key.specs.Keys.{freshKey, configureResult, configureResultBy, checkResult, CameFromCalls}
 use Rattle.engine.specs.declared.Progress.{Progress}
 use Rattle.transfer.specs.Transferring.{answerOf, transferResultBy, becomes, sendResult, wireAfterSend, receiveResult, memoryAfterReceive}
 use Rattle.packets.specs.declared.Session.{Session}
 use Rattle.packets.specs.declared.OpenResult.{OpenResult}
-use Rattle.packets.specs.Sessions.{openResult, packetAnswer, packetResult, packetResultBy, memoryAfterPacket, finishResultBy, finishAnswer, endedKey, abandonResult, SessionFromCalls}
+use Rattle.packets.specs.Sessions.{openedSession, openResult, packetAnswer, packetResult, packetResultBy, memoryAfterPacket, finishResult, finishResultBy, finishAnswer, endedKey, abandonResult, SessionFromCalls}
 use Rattle.cstructs.specs.declared.CConfiguration.{CConfiguration}
 use Rattle.capi.specs.declared.COpenResult.{COpenResult}
+use Rattle.capi.specs.declared.CFinishResult.{CFinishResult}
 use Rattle.cstructs.specs.declared.CKey.{CKey}
 use Rattle.cstructs.specs.declared.CSession.{CSession}
 use Rattle.cstructs.specs.CStructs.{configurationFromC, keyFromC, keyToC, cKeyValid, sessionFromC, sessionToC, cSessionValid, unsealed, noSession}
-use Rattle.capi.specs.Calls.{configureResultToC, transferResultToC, sessionOpened, openResultToC, packetResultToC, finishResultToC, cConfigure, cSend, wireAfterCSend, cReceive, memoryAfterCReceive, cOpen, cPacket, memoryAfterCPacket, cFinish}
+use Rattle.capi.specs.Calls.{configureResultToC, transferResultToC, keyOpened, sessionOpened, openResultToC, packetResultToC, finishResultToC, notKey, notSession, cConfigure, cSend, wireAfterCSend, cReceive, memoryAfterCReceive, cOpen, cPacket, memoryAfterCPacket, cFinish, cAbandon}
 use Rattle.capi.specs.ThreeCases.{ActsAs, SessionActsAs}
 use Rattle.capi.proofs.ThreeCases.{c-api, session-acts}
 use Rattle.cstructs.proofs.Laws.{key-passes, key-back, session-passes, session-back}
-use Rattle.audit.specs.CCalls.{Refuses, CKeyCame, CSessionCame, CPremiseKept, CRefused}
+use Rattle.audit.specs.CCalls.{Refuses, CKeyCame, CSessionCame, CPremiseKept, CRefused, COneGoesOn}
 use Rattle.audit.proofs.Premise.{premise-kept}
 
 -- No refusal has the number 0.
@@ -58,12 +59,16 @@ number-done (Refused r) e = absurd (no-refusal r e)
 
 -- ---- what came from the calls
 
--- An accepted open returns the C struct of a session that came from the calls.
-opened-came : (r : CKey) (n offset dataLength : ℕ) → CKeyCame r → cOpen r n offset dataLength .answer ≡ 0 → CSessionCame (cOpen r n offset dataLength .session)
-opened-came r n offset dataLength f z =
-    let e : cOpen r n offset dataLength ≡ openResultToC (openResult (f .key) n (record { 0 = offset }) dataLength) = rw (f .same) (c-api .keyCame (f .key) (f .came) .«open» n offset dataLength) in
-    let d : openAnswer (f .key) n offset dataLength ≡ Done = number-done (openAnswer (f .key) n offset dataLength) (ap (λ (a : COpenResult). a .answer) (sym e) ∙ z) in
-    record { session = openResult (f .key) n (record { 0 = offset }) dataLength .session; came = premise-kept .«open» (f .key) n (record { 0 = offset }) dataLength (f .came) d; same = rw (e, d) refl }
+-- An accepted open returns the C struct of a session that came from the calls, and a refused one returns that of its
+-- key.
+opened-came : (k : Key) → CameFromCalls k → (n offset dataLength : ℕ)
+    → let a = openResultToC (openResult k n (record { 0 = offset }) dataLength) in (a .answer ≡ 0 → CSessionCame (a .session)) × (Refuses (a .answer) → CKeyCame (a .key))
+opened-came k c n offset dataLength = go (openAnswer k n offset dataLength) (λ d. premise-kept .«open» k n (record { 0 = offset }) dataLength c d)
+  where
+    go : (o : Outcome) → (o ≡ Done → SessionFromCalls (openedSession k (record { 0 = offset }) dataLength))
+        → let a = openResultToC (record { outcome = o; key = k; session = openedSession k (record { 0 = offset }) dataLength }) in (a .answer ≡ 0 → CSessionCame (a .session)) × (Refuses (a .answer) → CKeyCame (a .key))
+    go Done f = (λ z. record { session = openedSession k (record { 0 = offset }) dataLength; came = f refl; same = refl }, λ z. absurd (z refl))
+    go (Refused r) f = (λ z. absurd (no-refusal r z), λ z. record { key = k; came = c; same = refl })
 
 -- An accepted finish returns the C struct of a key that came from the calls, and a refused one returns that of a
 -- session that came from them.
@@ -96,8 +101,7 @@ c-premise-kept = record {
     came = premise-kept .check (f .key) (f .came);
     same = rw (f .same, c-api .keyCame (f .key) (f .came) .check) refl;
   };
-  «open» = λ r n offset dataLength f.
-      (record { key = f .key; came = f .came; same = rw (f .same, c-api .keyCame (f .key) (f .came) .«open» n offset dataLength) refl }, opened-came r n offset dataLength f);
+  «open» = λ r n offset dataLength f. rw (f .same, c-api .keyCame (f .key) (f .came) .«open» n offset dataLength) (opened-came (f .key) (f .came) n offset dataLength);
   packet = λ r memory bytes b f. record {
     session = packetResult (f .session) (length memory) bytes .session;
     came = premise-kept .packet (f .session) (length memory) bytes b (f .came);
@@ -131,10 +135,10 @@ transferred-kept : (k : Key) (taken written : ℕ) (error : Slot) (before after 
 transferred-kept k taken written error before after Done z = absurd (z refl)
 transferred-kept k taken written error before after (Refused r) z = (refl, refl, refl, refl)
 
--- A refused open returns a C struct that is no session.
-opened-kept : (a : OpenResult) (o : Outcome) → Refuses (number o) → sessionOpened o a ≡ noSession (keyToC (a .key))
+-- A refused open returns the C struct of its key, and a C struct that is no session.
+opened-kept : (a : OpenResult) (o : Outcome) → Refuses (number o) → (keyOpened o a ≡ keyToC (a .key)) × (sessionOpened o a ≡ noSession (keyToC (a .key)))
 opened-kept a Done z = absurd (z refl)
-opened-kept a (Refused r) z = refl
+opened-kept a (Refused r) z = (refl, refl)
 
 -- A refused packet returns the C struct of its session and two zeros, and leaves the lent memory.
 packet-result-kept : (s : Session) (p : Progress) (before after : List ℕ) (o : Outcome)
@@ -174,7 +178,8 @@ module _ (r : CKey) (h : cKeyValid r ≡ true) where
   opened : (n offset dataLength : ℕ) → let a = cOpen r n offset dataLength in Refuses (a .answer) → (a .key ≡ r) × (a .session ≡ noSession r)
   opened n offset dataLength z =
       let e = acts .«open» n offset dataLength in
-      rw e (key-back r h, opened-kept (openResult (keyFromC r) n (record { 0 = offset }) dataLength) (openAnswer (keyFromC r) n offset dataLength) (rw e at z) ∙ ap (λ (k : CKey). noSession k) (key-back r h))
+      let t = opened-kept (openResult (keyFromC r) n (record { 0 = offset }) dataLength) (openAnswer (keyFromC r) n offset dataLength) (rw e at z) in
+      rw e (t .0 ∙ key-back r h, t .1 ∙ ap (λ (k : CKey). noSession k) (key-back r h))
 
 -- The laws of this module are about refused calls on a valid C session.
 module _ (r : CSession) (h : cSessionValid r ≡ true) where
@@ -208,4 +213,41 @@ c-refused = record {
       (λ h. let e = c-api .invalidSession r h .packet memory bytes in rw (e .0, e .1) (refl, refl, refl, refl));
   finish = λ r z. by-test _ (cSessionValid r) (λ h. finished r h z) (λ h. rw (c-api .invalidSession r h .finish) (refl, refl));
   abandon = λ r z. by-test _ (cSessionValid r) (λ h. absurd (z (rw (session-acts r h .abandon) refl))) (λ h. rw (c-api .invalidSession r h .abandon) refl);
+}
+
+-- ---- what the caller does not go on with
+
+-- The key of an accepted open is not valid.
+opened-key : (c : CKey) (n offset dataLength : ℕ) → cOpen c n offset dataLength .answer ≡ 0 → cKeyValid (cOpen c n offset dataLength .key) ≡ false
+opened-key c n offset dataLength z = by-test _ (cKeyValid c) valid (λ h. absurd (not-done (ap (λ (a : COpenResult). a .answer) (sym (c-api .invalidKey c h .«open» n offset dataLength)) ∙ z)))
+  where
+    not-done : notKey ≡ 0 → ⊥
+    not-done e = omega arith
+
+    valid : cKeyValid c ≡ true → cKeyValid (cOpen c n offset dataLength .key) ≡ false
+    valid h =
+        let e = c-api .validKey c h .0 .«open» n offset dataLength in
+        let d = number-done (openAnswer (keyFromC c) n offset dataLength) (ap (λ (a : COpenResult). a .answer) (sym e) ∙ z) in
+        rw (e, d) (c-api .unsealedInvalid (keyToC (keyFromC c)))
+
+-- The session of an accepted finish is not valid.
+finished-session : (c : CSession) → cFinish c .answer ≡ 0 → cSessionValid (cFinish c .session) ≡ false
+finished-session c z = by-test _ (cSessionValid c) valid (λ h. absurd (not-done (ap (λ (a : CFinishResult). a .answer) (sym (c-api .invalidSession c h .finish)) ∙ z)))
+  where
+    not-done : notSession ≡ 0 → ⊥
+    not-done e = omega arith
+
+    valid : cSessionValid c ≡ true → cSessionValid (cFinish c .session) ≡ false
+    valid h =
+        let e = session-acts c h .finish in
+        let s = sessionFromC c in
+        let d = number-done (finishResult s .outcome) (ap (λ (a : CFinishResult). a .answer) (sym e) ∙ z) in
+        rw (e, d) (c-api .noSessionInvalid (keyToC (finishResult s .key)))
+
+-- At most one of the key and the session that a call returns is valid.
+pub c-one-goes-on : COneGoesOn
+c-one-goes-on = record {
+  opened = λ c n offset dataLength. (opened-key c n offset dataLength, λ z. rw (c-refused .«open» c n offset dataLength z .1) (c-api .noSessionInvalid c));
+  finished = λ c. (finished-session c, λ z. rw (c-refused .finish c z .1) (c-api .unsealedInvalid (c .key)));
+  abandoned = λ c z. rw (c-refused .abandon c z) (c-api .unsealedInvalid (c .key));
 }

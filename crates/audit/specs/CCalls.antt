@@ -6,8 +6,9 @@
 --   CSessionCame c           the struct is that of a session that came from the calls
 --   CPremiseKept             each of the nine calls keeps that
 --   CRefused                 demand 1: a refused call changes nothing
+--   COneGoesOn               where a call returns a key and a session, at most one of them is valid
 use mathlib.Core.Path.{_≡_}
-use mathlib.Core.Bool.{true}
+use mathlib.Core.Bool.{true, false}
 use mathlib.Core.List.{List}
 use Prim.Native.Nat.{ℕ}
 use lib.ListN.{length}
@@ -40,7 +41,9 @@ pub record CSessionCame (c : CSession) : Type 0 where
   pub came : SessionFromCalls session
   pub same : c ≡ sessionToC session
 
--- Each of the nine calls, on what came from them, returns what came from them; and that is valid.
+-- Each of the nine calls, on what came from them, returns what came from them; and that is valid. Of the
+-- key and the session that open and finish return, that is said of the one to go on with; `COneGoesOn` speaks of the
+-- other.
 pub record CPremiseKept : Type 0 where
   pub fresh : CKeyCame (keyToC freshKey)
   pub configure : (c : CKey) (n : ℕ) (new : CConfiguration) → CKeyCame c → CKeyCame (cConfigure c n new .key)
@@ -54,7 +57,8 @@ pub record CPremiseKept : Type 0 where
   pub «open» :
       (c : CKey) (n offset dataLength : ℕ)
       → CKeyCame c
-      → let o = cOpen c n offset dataLength in CKeyCame (o .key) × (o .answer ≡ 0 → CSessionCame (o .session))
+      → let o = cOpen c n offset dataLength in
+      (o .answer ≡ 0 → CSessionCame (o .session)) × (Refuses (o .answer) → CKeyCame (o .key))
   pub packet :
       (c : CSession) (memory bytes : List ℕ)
       → Bytes bytes → CSessionCame c → CSessionCame (cPacket c (length memory) bytes .session)
@@ -91,3 +95,16 @@ pub record CRefused : Type 0 where
   pub finish :
       (c : CSession) → let a = cFinish c in Refuses (a .answer) → (a .session ≡ c) × (a .key ≡ unsealed (c .key))
   pub abandon : (c : CSession) → let a = cAbandon c in Refuses (a .answer) → a .key ≡ unsealed (c .key)
+
+-- Open and finish return a key and a session, of which the caller goes on with one. The other is not valid, whatever
+-- struct was passed, so that every call refuses it with 1000 or 1001. Nor is the key of a refused abandon.
+pub record COneGoesOn : Type 0 where
+  pub opened :
+      (c : CKey) (n offset dataLength : ℕ)
+      → let a = cOpen c n offset dataLength in
+      (a .answer ≡ 0 → cKeyValid (a .key) ≡ false) × (Refuses (a .answer) → cSessionValid (a .session) ≡ false)
+  pub finished :
+      (c : CSession)
+      → let a = cFinish c in
+      (a .answer ≡ 0 → cSessionValid (a .session) ≡ false) × (Refuses (a .answer) → cKeyValid (a .key) ≡ false)
+  pub abandoned : (c : CSession) → let a = cAbandon c in Refuses (a .answer) → cKeyValid (a .key) ≡ false

@@ -63,10 +63,18 @@ abbrev pub sessionOpened : (outcome : Outcome) (o : OpenResult) → CSession
 sessionOpened Done o = sessionToC (o .session)
 sessionOpened (Refused r) o = noSession (keyToC (o .key))
 
+-- The key of a refused open, as it was given. An accepted one returns none: the caller goes on with the session.
+abbrev pub keyOpened : (outcome : Outcome) (o : OpenResult) → CKey
+keyOpened Done o = unsealed (keyToC (o .key))
+keyOpened (Refused r) o = keyToC (o .key)
+
 -- Open.
 abbrev pub openResultToC : (o : OpenResult) → COpenResult
-openResultToC o =
-    record { key = keyToC (o .key); session = sessionOpened (o .outcome) o; answer = number (o .outcome) }
+openResultToC o = record {
+  key = keyOpened (o .outcome) o;
+  session = sessionOpened (o .outcome) o;
+  answer = number (o .outcome);
+}
 
 -- Packet.
 abbrev pub packetResultToC : (p : PacketResult) → CPacketResult

@@ -37,6 +37,18 @@ fn session_opened(o: OpenResult) -> CSession
     }
 }
 
+// Returns the key of a refused open, as it was given. After an accepted one it returns a struct that is none, because a
+// caller who went on with that key would never hear of the errors that the session finds.
+fn key_opened(o: OpenResult) -> CKey
+    ensures { λ r. ⌜ r ≡ calls.keyOpened (o .outcome) o ⌝ }
+{
+    let outcome = o.outcome;
+    match outcome {
+        Outcome::Done => unsealed(key_to_c(o.key)),
+        Outcome::Refused(_) => key_to_c(o.key),
+    }
+}
+
 // Returns the session of a refused finish. An accepted one ends the session.
 fn session_finished(f: FinishResult) -> CSession
     ensures { λ r. ⌜ r ≡ calls.sessionFinished (f .outcome) f ⌝ }
@@ -77,7 +89,7 @@ pub extern "C" fn garoalva_open(
         );
         let outcome = o.outcome;
         return COpenResult {
-            key: key_to_c(o.key),
+            key: key_opened(o),
             session: session_opened(o),
             answer: wide(key::number(outcome)),
         };

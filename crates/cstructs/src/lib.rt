@@ -20,9 +20,9 @@ pub use validate::c_session_valid;
 pub use validate::c_session_valid_given_key;
 
 // The first words of a key and of a session. The lowest byte is the version of the structs.
-pub(crate) const KEY_SEAL: u64 = 0x4741524F4B455901;
+pub(crate) const KEY_SEAL: u64 = 0x4741524F4B455902;
 
-pub(crate) const SESSION_SEAL: u64 = 0x4741524F53455301;
+pub(crate) const SESSION_SEAL: u64 = 0x4741524F53455302;
 
 #[repr(C)]
 pub struct CSignature {

@@ -17,8 +17,8 @@ new-requires c κs = search needs
 open-requires : tie.Need-open-requires
 open-requires c κs = rw (c .before .key-from-c .ensures) (key-told _ (sym (c .before .before .before .c-key-valid .ensures) ∙ c .before .before .if1 .taken) .keyValid)
 
-key-to-c-requires : tie.Need-key-to-c-requires
-key-to-c-requires c κs = search needs
+key-opened-requires : tie.Need-key-opened-requires
+key-opened-requires c κs = search needs
 
 session-opened-requires : tie.Need-session-opened-requires
 session-opened-requires c κs = search needs
@@ -31,7 +31,7 @@ wide-requires c κs = search needs
 
 returns : tie.Need-returns
 unfolding cOpen
-returns c = rw (c .wide .ensures, c .before .number .ensures, c .before .before .session-opened .ensures, c .before .before .before .key-to-c .ensures, c .before .before .before .before .«open» .ensures, c .before .before .before .before .before .new .ensures, c .before .before .before .before .before .before .key-from-c .ensures, sym (c .before .before .before .before .before .before .before .before .c-key-valid .ensures) ∙ c .before .before .before .before .before .before .before .if1 .taken)
+returns c = rw (c .wide .ensures, c .before .number .ensures, c .before .before .session-opened .ensures, c .before .before .before .key-opened .ensures, c .before .before .before .before .«open» .ensures, c .before .before .before .before .before .new .ensures, c .before .before .before .before .before .before .key-from-c .ensures, sym (c .before .before .before .before .before .before .before .before .c-key-valid .ensures) ∙ c .before .before .before .before .before .before .before .if1 .taken)
 
 no-session-requires : tie.Need-no-session-requires
 no-session-requires c κs = search needs
@@ -48,7 +48,7 @@ garoalva-open-spec =
     key-from-c-requires
     new-requires
     open-requires
-    key-to-c-requires
+    key-opened-requires
     session-opened-requires
     number-requires
     wide-requires
