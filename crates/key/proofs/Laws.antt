@@ -21,6 +21,7 @@ use Rattle.key.specs.declared.Signature.{Signature}
 use Rattle.key.specs.declared.Configuration.{Configuration}
 use Rattle.key.specs.declared.Key.{Key}
 use Rattle.slot.specs.declared.Slot.{Slot}
+use Rattle.slot.specs.Slots.{errorNumbers}
 use Rattle.key.specs.declared.Outcome.{Outcome}
 use Rattle.key.specs.declared.Outcome.the-variants.{Done, Refused}
 use Rattle.key.specs.declared.Refusal.{Refusal}
@@ -29,7 +30,7 @@ use Rattle.key.specs.Numbers.{refuse}
 use Rattle.key.specs.Configuring.{memoryLimit, badBlockSize, badSeed, badDomain, escapesAlways, sameSize, bothSigned, signatureAnswer, layoutAnswer, configureAnswer}
 use Rattle.key.specs.Inner.Admission.{GoodDomain}
 use Rattle.key.specs.Numbers.{then}
-use Rattle.key.specs.Keys.{freshKey, withSlot, configureResultBy, configureResult, checkResult, CameFromCalls, accepts, keyValid, KeyValid}
+use Rattle.key.specs.Keys.{freshKey, withSlot, configureResultBy, configureResult, checkResult, CameFromCalls, NeverConfiguredZeros, accepts, keyValid, KeyValid}
 use Rattle.key.specs.Streams.{streamLength}
 use Rattle.key.specs.Inner.Admission.{Sized}
 use Rattle.key.specs.Admitting.{partial, openAnswer, transferAnswer}
@@ -223,6 +224,11 @@ came-with-error k s came h = record { never = λ e. let z : _≡_ {A = ℕ} 0 1 
 pub came-checked : (k : Key) → CameFromCalls k → CameFromCalls (checkResult k .key)
 unfolding checkResult
 came-checked k came = record { never = λ e. refl; accepted = came .accepted }
+
+-- Check returns zeros on a key that was never configured.
+pub never-zeros : NeverConfiguredZeros
+unfolding checkResult errorNumbers
+never-zeros k came e = rw (came .never e) refl
 
 -- ---- an accepted open
 

@@ -6,6 +6,7 @@
 --   configureResult k memoryLength c      what configure returns
 --   checkResult k                         what check returns
 --   CameFromCalls k                       the key came from these calls: 01's one premise
+--   NeverConfiguredZeros                  check returns zeros on a key that was never configured
 --   accepts outcome                       the outcome is Done
 --   fieldsValid, keyValid, KeyValid       the precondition of the calls, which every key from these calls meets
 use mathlib.Core.Path.{_≡_}
@@ -19,7 +20,7 @@ use Rattle.layout.specs.Pieces.{entriesMax}
 use Rattle.layout.specs.Answers.{fits}
 use Rattle.slot.specs.declared.Slot.{Slot}
 use Rattle.slot.specs.declared.Slot.the-variants.{Empty}
-use Rattle.slot.specs.Slots.{errorNumbers}
+use Rattle.slot.specs.Slots.{noError, errorNumbers}
 use Rattle.key.specs.declared.Signature.{Signature}
 use Rattle.key.specs.declared.Configuration.{Configuration}
 use Rattle.key.specs.declared.ConfigureResult.{ConfigureResult}
@@ -96,6 +97,10 @@ pub record CameFromCalls (k : Key) : Type 0 where
   pub accepted :
       k .configured ≡ true
       → configureAnswer (k .«memory_length») (record { signature = k .signature; layout = k .layout }) ≡ Done
+
+-- 01: "Check on a key never configured answers four zeros."
+abbrev pub NeverConfiguredZeros : Type 0
+NeverConfiguredZeros = (k : Key) → CameFromCalls k → k .configured ≡ false → checkResult k .error ≡ noError
 
 -- The outcome is Done.
 abbrev pub accepts : (outcome : Outcome) → Bool

@@ -1,5 +1,6 @@
 // Check returns the recorded error, and `keep_error` records the first error of a transfer.
 ghost use mathlib.Core.Path.{_≡_};
+ghost use mathlib.Core.Bool.{true};
 ghost use Rattle.key.specs.Keys as keys;
 ghost use Rattle.slot.specs.Slots as slots;
 use crate::CheckResult;
@@ -31,8 +32,10 @@ pub fn check(key: Key) -> CheckResult
     }
 }
 
-// Returns the key with the error of a transfer in its slot, unless the slot held an error before.
+// Returns the key with the error of a transfer in its slot, unless the slot held an error before. A key that was never
+// configured transfers nothing and holds no error.
 pub fn keep_error(key: Key, found: Slot) -> Key
+    requires { ⌜ key .configured ≡ true ⌝ }
     ensures { λ r. ⌜ r ≡ keys.withSlot key (slots.keep (key .slot) found) ⌝ }
 {
     let slot = key.slot;

@@ -13,6 +13,7 @@ use key::Refusal;
 
 // Returns the key given to open, with the recorded error in its slot.
 fn ended_key(s: Session) -> Key
+    requires { ⌜ SessionValid s ⌝ }
     ensures { λ r. ⌜ r ≡ sessions.endedKey s ⌝ }
 {
     let key = s.key;

@@ -68,7 +68,7 @@ stream-length-requires-2 : tie.Need-stream-length-requires-2
 stream-length-requires-2 c κs = accepted (c .before .before .before .before .before .before .before .before .before) .measured .0
 
 keep-error-requires : tie.Need-keep-error-requires
-keep-error-requires c κs = search needs
+keep-error-requires c κs = accepted (c .before .before .before .before .before .before .before .before .before .before) .admitted .configured
 
 same-length-2 : tie.Need-same-length-2
 same-length-2 c = search needs

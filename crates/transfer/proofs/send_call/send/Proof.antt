@@ -4,9 +4,8 @@ use native.Mathlib.Omega.{arith}
 use lib.ListN.{length}
 use Rattle.guard.specs.Guards.{Bytes}
 use Rattle.key.specs.declared.Outcome.the-variants.{Done}
-use Rattle.key.specs.Inner.Admission.{Measured}
 use Rattle.transfer.specs.Transferring.{answerOf}
-use Rattle.transfer.proofs.Laws.{accept}
+use Rattle.transfer.proofs.Laws.{Accepted, accept}
 use Rattle.transfer.proofs.SendLaws.{send-refused, send-small, send-asks, send-gives}
 use borrow.Author.Needs.{needs}
 use Rattle.transfer.proofs.send_call.send.Statement.{statement}
@@ -38,19 +37,17 @@ done r =
     let t = r .before .before .before in
     sym (t .before .before .admit-transfer .ensures) ∙ t .enum-told .given .1
 
-measured : (r : tie.After-send-rule) → let a = r .before .before .before .before .before .before .before .before .before .args in Measured (a .key .signature .memory) (a .data-length) × Measured (a .key .signature .wire) (a .data-length)
-measured r =
-    let s = r .before .before .before .before .before .before .before .before .before in
-    accept _ (length (s .args .memory .now)) (s .args .offset .0) _ (length (s .args .wire .now)) (s .pre) (done r) .measured
+accepted : (r : tie.After-send-rule) → let a = r .before .before .before .before .before .before .before .before .before .args in Accepted (a .key) (length (a .memory .now)) (a .offset .0) (a .data-length) (length (a .wire .now))
+accepted r = accept _ _ _ _ _ (r .before .before .before .before .before .before .before .before .before .pre) (done r)
 
 bytes : (r : tie.After-send-rule) → Bytes (r .before .before .before .before .before .before .before .before .before .args .memory .now)
 bytes r i = r .before .before .before .before .before .before .before .before .shared-slice-known .given i .fits
 
 stream-length-requires : tie.Need-stream-length-requires
-stream-length-requires c κs = measured c .0
+stream-length-requires c κs = accepted c .measured .0
 
 stream-length-requires-2 : tie.Need-stream-length-requires-2
-stream-length-requires-2 c κs = measured (c .before) .1
+stream-length-requires-2 c κs = accepted (c .before) .measured .1
 
 prefix-layout-requires : tie.Need-prefix-layout-requires
 prefix-layout-requires c κs =
@@ -66,7 +63,7 @@ send-stream-requires c κs =
     (send-asks _ (s .args .memory .now) (s .args .wire .now) _ _ (s .pre) (done r) (bytes r))
 
 keep-error-requires : tie.Need-keep-error-requires
-keep-error-requires c κs = search needs
+keep-error-requires c κs = accepted (c .before .before .before .before .before .before .before) .admitted .configured
 
 same-length-2 : tie.Need-same-length-2
 same-length-2 c = search needs
