@@ -28,7 +28,7 @@ use Rattle.capi.specs.declared.CFinishResult.{CFinishResult}
 use Rattle.cstructs.specs.declared.CKey.{CKey}
 use Rattle.cstructs.specs.declared.CSession.{CSession}
 use Rattle.cstructs.specs.CStructs.{configurationFromC, keyFromC, keyToC, cKeyValid, sessionFromC, sessionToC, cSessionValid, unsealed, noSession}
-use Rattle.capi.specs.Calls.{configureResultToC, transferResultToC, keyOpened, sessionOpened, openResultToC, packetResultToC, finishResultToC, notKey, notSession, cConfigure, cSend, wireAfterCSend, cReceive, memoryAfterCReceive, cOpen, cPacket, memoryAfterCPacket, cFinish, cAbandon}
+use Rattle.capi.specs.Calls.{configureResultToC, transferResultToC, keyOpened, sessionOpened, openResultToC, packetResultToC, finishResultToC, notKey, notSession, cConfigure, cSend, wireAfterCSend, cReceive, memoryAfterCReceive, cOpen, cPacket, memoryAfterCPacket, cFinish}
 use Rattle.capi.specs.ThreeCases.{ActsAs, SessionActsAs}
 use Rattle.capi.proofs.ThreeCases.{c-api, session-acts}
 use Rattle.cstructs.proofs.Laws.{key-passes, key-back, session-passes, session-back}
@@ -120,7 +120,7 @@ c-premise-kept = record {
 -- ---- refused calls
 
 -- A statement holds if it follows from either result of a test.
-by-test : (P : Type 0) (b : Bool) → (b ≡ true → P) → (b ≡ false → P) → P
+pub by-test : (P : Type 0) (b : Bool) → (b ≡ true → P) → (b ≡ false → P) → P
 by-test P true f g = f refl
 by-test P false f g = g refl
 

@@ -28,7 +28,7 @@ use Rattle.packets.specs.Sessions.{openResult, packetAnswer, packetResult, memo
 use Rattle.packets.specs.Lists.{Request, played, packetOf, AllBytes}
 use Rattle.packets.proofs.Following.{played-made, packets-follow-the-rule}
 use Rattle.audit.specs.Cases.{keyOver, domainA}
-use Rattle.audit.specs.CaseM.{part, requestsM, abandonedM, sessionM, memoryM, all, CaseM, MadeAndFollows, CaseMFollows}
+use Rattle.audit.specs.CaseM.{requestsM, abandonedM, sessionM, memoryM, all, CaseM, MadeAndFollows, CaseMFollows}
 
 -- Case M holds, since both of its sides compute to the same numbers.
 pub case-M : CaseM

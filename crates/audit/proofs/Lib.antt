@@ -6,5 +6,6 @@ pub mod Copying
 pub mod Escape
 pub mod CaseM
 pub mod Premise
+pub mod Answers
 pub mod CCalls
 pub mod CLists

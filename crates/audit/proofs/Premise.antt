@@ -48,6 +48,7 @@ premise-kept = record {
   send = came-sending;
   receive = came-receiving;
   check = came-checked;
+  keepError = λ k found e c. came-with-error k _ c e;
   «open» = came-opened;
   packet = λ s m bytes b f. came-packet s f m bytes b;
   finish = λ s f. finished-came (finishAnswer s) s f;

@@ -3,14 +3,17 @@
 --
 --   PremiseKept      the statement, with a line for each of the nine calls
 use mathlib.Core.Path.{_≡_}
+use mathlib.Core.Bool.{true}
 use mathlib.Core.List.{List}
 use Prim.Native.Nat.{ℕ}
 use Rattle.guard.specs.Guards.{Bytes}
 use Rattle.layout.specs.declared.offset.LayoutOffset.{LayoutOffset}
+use Rattle.slot.specs.declared.Slot.{Slot}
+use Rattle.slot.specs.Slots.{keep}
 use Rattle.key.specs.declared.Key.{Key}
 use Rattle.key.specs.declared.Configuration.{Configuration}
 use Rattle.key.specs.declared.Outcome.the-variants.{Done}
-use Rattle.key.specs.Keys.{freshKey, configureResult, checkResult, CameFromCalls, KeyValid}
+use Rattle.key.specs.Keys.{freshKey, withSlot, configureResult, checkResult, CameFromCalls, KeyValid}
 use Rattle.key.specs.Admitting.{openAnswer}
 use Rattle.transfer.specs.Transferring.{sendResult, receiveResult}
 use Rattle.packets.specs.declared.Session.{Session}
@@ -30,6 +33,9 @@ pub record PremiseKept : Type 0 where
       (k : Key) (memory wire : List ℕ) (offset dataLength : ℕ)
       → CameFromCalls k → CameFromCalls (receiveResult k memory wire offset dataLength .key)
   pub check : (k : Key) → CameFromCalls k → CameFromCalls (checkResult k .key)
+  -- By this a transfer records an error. It requires a configured key, so that check stays at zeros on any other.
+  pub keepError :
+      (k : Key) (found : Slot) → k .configured ≡ true → CameFromCalls k → CameFromCalls (withSlot k (keep (k .slot) found))
   -- Sessions, and the keys that they return.
   pub «open» :
       (k : Key) (memoryLength : ℕ) (offset : LayoutOffset) (dataLength : ℕ)
