@@ -1,13 +1,12 @@
-// difcheck checks the fields of a wire on standard input, and prints the numbers that check returns, or "refused 9".
-use libc::STDIN_FILENO;
+// difcheck checks the fields of a wire on standard input, and prints the numbers that check returns, or "refused 9". If
+// standard input can't be read, it says so and prints no numbers.
+mod reading;
+
 use libc::STDOUT_FILENO;
+use reading::Input;
 use wirecheck::Answer;
 
-// True if there is one more byte on standard input.
-fn one_more() -> bool {
-    let mut next = [0u8; 1];
-    0 < io::read_full(STDIN_FILENO, &mut next)
-}
+const BUFFER_SIZE: usize = 65536;
 
 // Prints a space and a number.
 fn print_spaced(n: u64) {
@@ -32,10 +31,29 @@ fn print(answer: Answer) {
     io::write_all(STDOUT_FILENO, b"\n");
 }
 
+fn print_unreadable() {
+    io::write_all(STDOUT_FILENO, b"standard input can't be read\n");
+}
+
+// Tries to read one more byte if the first n bytes filled the buffer. If they did not, the input has ended.
+fn read_one_more(n: usize) -> Input {
+    if n < BUFFER_SIZE {
+        return Input::Bytes(0);
+    }
+    let mut next = [0u8; 1];
+    reading::read_all(&mut next)
+}
+
 fn main() {
-    let mut buffer = [0u8; 65536];
-    let n = io::read_full(STDIN_FILENO, &mut buffer);
-    let more = one_more();
+    let mut buffer = [0u8; BUFFER_SIZE];
+    let input = reading::read_all(&mut buffer);
+    let Input::Bytes(n) = input else {
+        return print_unreadable();
+    };
+    let after = read_one_more(n);
+    let Input::Bytes(more) = after else {
+        return print_unreadable();
+    };
     let mut memory = [0u8; 32768];
-    print(wirecheck::check_wire(&buffer[..n], more, &mut memory));
+    print(wirecheck::check_wire(&buffer[0..n], 0 < more, &mut memory));
 }
