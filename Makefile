@@ -65,6 +65,7 @@ test: test-header test-c test-rust test-reference
 test-header:
 	echo '#include "garoalva.h"' | $(CC) -x c -std=c11 $(WARNINGS) -Wpadded -Iinclude -fsyntax-only -
 	echo '#include "garoalva.h"' | $(CXX) -x c++ -std=c++11 $(WARNINGS) -Wpadded -Iinclude -fsyntax-only -
+	CC='$(CC)' CXX='$(CXX)' tests/nodiscard
 
 # The example and the tests of the C API, with each library, linked as docs/LINKING.md says.
 test-c: all

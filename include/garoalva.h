@@ -45,6 +45,22 @@
 #include <stddef.h>
 #include <stdint.h>
 
+/* Marks the calls, so that the compiler warns if a result is dropped, and the key or session in it is lost. */
+#if defined(__cplusplus)
+#if __cplusplus >= 201703L
+#define GAROALVA_NODISCARD [[nodiscard]]
+#endif
+#elif defined(__STDC_VERSION__) && __STDC_VERSION__ > 201710L && defined(__has_c_attribute)
+#if __has_c_attribute(nodiscard)
+#define GAROALVA_NODISCARD [[nodiscard]]
+#endif
+#endif
+#if !defined(GAROALVA_NODISCARD) && defined(__GNUC__)
+#define GAROALVA_NODISCARD __attribute__((warn_unused_result))
+#elif !defined(GAROALVA_NODISCARD)
+#define GAROALVA_NODISCARD
+#endif
+
 #ifdef __cplusplus
 extern "C" {
 #endif
@@ -257,6 +273,7 @@ typedef struct {
  *
  * Returns a key that was never configured and holds no error.
  */
+GAROALVA_NODISCARD
 garoalva_key garoalva_fresh(void);
 
 /*
@@ -271,6 +288,7 @@ garoalva_key garoalva_fresh(void);
  * Refused with the first that applies of NOT_A_KEY (1000), MEMORY_LENGTH (8), BAD_DOMAIN (1), ESCAPE_TAG (2), COPY_MASK
  * (3), BLOCK_SIZES (4), MALFORMED_LAYOUT (5), OUTSIDE_MEMORY (6) and OVERLAP (7). The key is then unchanged.
  */
+GAROALVA_NODISCARD
 garoalva_configure_result garoalva_configure(garoalva_key key, const uint8_t *memory, size_t memory_length,
                                              garoalva_configuration configuration);
 
@@ -290,6 +308,7 @@ garoalva_configure_result garoalva_configure(garoalva_key key, const uint8_t *me
  * Refused with the first that applies of NOT_A_KEY (1000), NOT_CONFIGURED (14), MEMORY_LENGTH (8), PARTIAL_BLOCK (9),
  * PAST_LAYOUT (10) and SHORT_WIRE (11). The key is then unchanged, and nothing is written.
  */
+GAROALVA_NODISCARD
 garoalva_transfer_result garoalva_send(garoalva_key key, const uint8_t *memory, size_t memory_length, uint8_t *wire,
                                        size_t wire_length, uint64_t offset, uint64_t data_length);
 
@@ -309,6 +328,7 @@ garoalva_transfer_result garoalva_send(garoalva_key key, const uint8_t *memory, 
  * Refused with the first that applies of NOT_A_KEY (1000), NOT_CONFIGURED (14), MEMORY_LENGTH (8), PARTIAL_BLOCK (9),
  * PAST_LAYOUT (10) and SHORT_WIRE (11). The key is then unchanged, and nothing is written.
  */
+GAROALVA_NODISCARD
 garoalva_transfer_result garoalva_receive(garoalva_key key, uint8_t *memory, size_t memory_length, const uint8_t *wire,
                                           size_t wire_length, uint64_t offset, uint64_t data_length);
 
@@ -321,6 +341,7 @@ garoalva_transfer_result garoalva_receive(garoalva_key key, uint8_t *memory, siz
  *
  * Refused with NOT_A_KEY (1000). The key is then unchanged.
  */
+GAROALVA_NODISCARD
 garoalva_check_result garoalva_check(garoalva_key key);
 
 /*
@@ -352,6 +373,7 @@ garoalva_check_result garoalva_check(garoalva_key key);
  *         return refused(finish.answer);
  *     garoalva_check_result check = garoalva_check(finish.key);
  */
+GAROALVA_NODISCARD
 garoalva_open_result garoalva_open(garoalva_key key, const uint8_t *memory, size_t memory_length, uint64_t offset,
                                    uint64_t data_length);
 
@@ -369,6 +391,7 @@ garoalva_open_result garoalva_open(garoalva_key key, const uint8_t *memory, size
  * Refused with the first that applies of NOT_A_SESSION (1001), MEMORY_LENGTH (8) and LONG_PACKET (12). The session is
  * then unchanged, nothing is written, and the receive can go on.
  */
+GAROALVA_NODISCARD
 garoalva_packet_result garoalva_packet(garoalva_session session, uint8_t *memory, size_t memory_length,
                                        const uint8_t *bytes, size_t bytes_length);
 
@@ -382,6 +405,7 @@ garoalva_packet_result garoalva_packet(garoalva_session session, uint8_t *memory
  * Refused with the first that applies of NOT_A_SESSION (1001) and BYTES_TO_COME (13). The session is then returned
  * unchanged, and the receive can go on.
  */
+GAROALVA_NODISCARD
 garoalva_finish_result garoalva_finish(garoalva_session session);
 
 /*
@@ -393,6 +417,7 @@ garoalva_finish_result garoalva_finish(garoalva_session session);
  *
  * Refused with NOT_A_SESSION (1001). The result then holds no key.
  */
+GAROALVA_NODISCARD
 garoalva_abandon_result garoalva_abandon(garoalva_session session);
 
 /*
@@ -535,5 +560,6 @@ GAROALVA_AT(abandon_result, answer, 360);
 #undef GAROALVA_AT
 #undef GAROALVA_SIZE
 #undef GAROALVA_ASSERT
+#undef GAROALVA_NODISCARD
 
 #endif
