@@ -6,11 +6,15 @@
 # make clean
 
 # 0.N.0, where N is the struct version that keys and sessions hold. A library with another N does not replace this one,
-# so N is in the soname. include/garoalva.h and rust/Cargo.toml have the version too; make test compares them.
+# so N is in the soname and at the end of symbols. include/garoalva.h and rust/Cargo.toml have the version too, and
+# tests/reference/src/live/library.rs has N; make test compares them.
 VERSION := 0.1.0
 ABI := $(basename $(VERSION))
+STRUCT_VERSION := $(patsubst .%,%,$(suffix $(ABI)))
 PREFIX ?= /usr/local
 CFLAGS ?= -O2
+NM ?= nm
+OBJCOPY ?= objcopy
 
 SONAME := libgaroalva.so.$(ABI)
 SHARED := libgaroalva.so.$(VERSION)
@@ -43,8 +47,13 @@ build/libcapi.a: $(PROVED) | build
 build/text.o: c/text.c include/garoalva.h Makefile | build
 	$(COMPILE) -fPIC -Iinclude -c $< -o $@
 
-build/libgaroalva.a: build/libcapi.a build/text.o
-	cp build/libcapi.a $@
+# The proved calls all take or return structs, so their symbols end in the struct version: a program that was built for
+# other structs does not link. include/garoalva.h gives garoalva_error_text such a symbol.
+build/symbols.txt: build/libcapi.a Makefile
+	$(NM) --extern-only --defined-only $< | sed -n 's/.* T \(garoalva_.*\)/\1 \1_v$(STRUCT_VERSION)/p' > $@
+
+build/libgaroalva.a: build/libcapi.a build/symbols.txt build/text.o
+	$(OBJCOPY) --redefine-syms=build/symbols.txt build/libcapi.a $@
 	$(AR) rs $@ build/text.o
 
 build/exports.map: Makefile | build

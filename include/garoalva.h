@@ -67,7 +67,26 @@ extern "C" {
 
 /* The version of this header: 0.N.0, where N is the struct version. garoalva_version returns the library's. */
 #define GAROALVA_VERSION "0.1.0"
-#define GAROALVA_STRUCT_VERSION 1u /* in the lowest byte of a key's and of a session's seal */
+#define GAROALVA_STRUCT_VERSION 1 /* the lowest byte of each seal, and the end of each symbol below: digits alone */
+
+/*
+ * The symbol of a function that takes or returns a struct is its name and the struct version, as garoalva_fresh_v1. A
+ * program that was built for other structs therefore does not link with this library. C and C++ code uses the name
+ * alone, and these macros complete it. A program that calls dlsym asks for the whole symbol.
+ */
+#define GAROALVA_JOIN_TOKENS(name, version) name##_v##version
+#define GAROALVA_JOIN(name, version) GAROALVA_JOIN_TOKENS(name, version)
+#define GAROALVA_SYMBOL(name) GAROALVA_JOIN(name, GAROALVA_STRUCT_VERSION)
+#define garoalva_fresh GAROALVA_SYMBOL(garoalva_fresh)
+#define garoalva_configure GAROALVA_SYMBOL(garoalva_configure)
+#define garoalva_send GAROALVA_SYMBOL(garoalva_send)
+#define garoalva_receive GAROALVA_SYMBOL(garoalva_receive)
+#define garoalva_check GAROALVA_SYMBOL(garoalva_check)
+#define garoalva_open GAROALVA_SYMBOL(garoalva_open)
+#define garoalva_packet GAROALVA_SYMBOL(garoalva_packet)
+#define garoalva_finish GAROALVA_SYMBOL(garoalva_finish)
+#define garoalva_abandon GAROALVA_SYMBOL(garoalva_abandon)
+#define garoalva_error_text GAROALVA_SYMBOL(garoalva_error_text)
 
 #define GAROALVA_FIELD_SIZE 8u          /* bytes of the protection field after each block */
 #define GAROALVA_BLOCK_SIZE_MIN 8u      /* data bytes of a block, at least; they are a multiple of 8 */

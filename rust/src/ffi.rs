@@ -199,18 +199,32 @@ assert_layouts! {
     AbandonResult 368: key 0, answer 360;
 }
 
+/// The symbol of a function that takes or returns a struct: its name and the struct version, which is the N of the
+/// crate's version 0.N.0. A library with other structs has other symbols, so this crate does not link with it.
+macro_rules! symbol {
+    ($name:literal) => {
+        concat!($name, "_v", env!("CARGO_PKG_VERSION_MINOR"))
+    };
+}
+
 // Calls that are lent no bytes are safe: they are defined for every struct.
 unsafe extern "C" {
+    #[link_name = symbol!("garoalva_fresh")]
     safe fn garoalva_fresh() -> Key;
+    #[link_name = symbol!("garoalva_check")]
     safe fn garoalva_check(key: Key) -> CheckResult;
+    #[link_name = symbol!("garoalva_finish")]
     safe fn garoalva_finish(session: Session) -> FinishResult;
+    #[link_name = symbol!("garoalva_abandon")]
     safe fn garoalva_abandon(session: Session) -> AbandonResult;
+    #[link_name = symbol!("garoalva_configure")]
     fn garoalva_configure(
         key: Key,
         memory: *const u8,
         memory_length: usize,
         configuration: Configuration,
     ) -> ConfigureResult;
+    #[link_name = symbol!("garoalva_send")]
     fn garoalva_send(
         key: Key,
         memory: *const u8,
@@ -220,6 +234,7 @@ unsafe extern "C" {
         offset: u64,
         data_length: u64,
     ) -> TransferResult;
+    #[link_name = symbol!("garoalva_receive")]
     fn garoalva_receive(
         key: Key,
         memory: *mut u8,
@@ -229,7 +244,9 @@ unsafe extern "C" {
         offset: u64,
         data_length: u64,
     ) -> TransferResult;
+    #[link_name = symbol!("garoalva_open")]
     fn garoalva_open(key: Key, memory: *const u8, memory_length: usize, offset: u64, data_length: u64) -> OpenResult;
+    #[link_name = symbol!("garoalva_packet")]
     fn garoalva_packet(
         session: Session,
         memory: *mut u8,
@@ -308,6 +325,7 @@ pub mod texts {
     unsafe extern "C" {
         safe fn garoalva_version() -> *const c_char;
         safe fn garoalva_answer_text(answer: u64) -> *const c_char;
+        #[link_name = symbol!("garoalva_error_text")]
         fn garoalva_error_text(error: Error, text: *mut c_char, size: usize) -> usize;
     }
 

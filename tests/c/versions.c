@@ -13,7 +13,7 @@ void test_versions(int count, char **versions) {
     CHECK(struct_version(garoalva_fresh().seal) == GAROALVA_STRUCT_VERSION);
     CHECK(struct_version(opened.session.seal) == GAROALVA_STRUCT_VERSION);
     char version[16];
-    snprintf(version, sizeof version, "0.%u.0", GAROALVA_STRUCT_VERSION);
+    snprintf(version, sizeof version, "0.%d.0", GAROALVA_STRUCT_VERSION);
     CHECK(strcmp(version, GAROALVA_VERSION) == 0);
     CHECK(strcmp(version, garoalva_version()) == 0);
     CHECK(count > 0);

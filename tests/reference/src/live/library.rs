@@ -140,14 +140,24 @@ const _: () = {
     assert!(size_of::<FinishResult>() == 824 && size_of::<AbandonResult>() == 368);
 };
 
+/// The symbol of a call: by the header, its name and the struct version.
+macro_rules! symbol {
+    ($name:literal) => {
+        concat!($name, "_v1")
+    };
+}
+
 extern "C" {
+    #[link_name = symbol!("garoalva_fresh")]
     fn garoalva_fresh() -> RawKey;
+    #[link_name = symbol!("garoalva_configure")]
     fn garoalva_configure(
         key: RawKey,
         memory: *const u8,
         memory_length: usize,
         configuration: RawConfiguration,
     ) -> ConfigureResult;
+    #[link_name = symbol!("garoalva_send")]
     fn garoalva_send(
         key: RawKey,
         memory: *const u8,
@@ -157,6 +167,7 @@ extern "C" {
         offset: u64,
         data_length: u64,
     ) -> TransferResult;
+    #[link_name = symbol!("garoalva_receive")]
     fn garoalva_receive(
         key: RawKey,
         memory: *mut u8,
@@ -166,9 +177,12 @@ extern "C" {
         offset: u64,
         data_length: u64,
     ) -> TransferResult;
+    #[link_name = symbol!("garoalva_check")]
     fn garoalva_check(key: RawKey) -> CheckResult;
+    #[link_name = symbol!("garoalva_open")]
     fn garoalva_open(key: RawKey, memory: *const u8, memory_length: usize, offset: u64, data_length: u64)
         -> OpenResult;
+    #[link_name = symbol!("garoalva_packet")]
     fn garoalva_packet(
         session: RawSession,
         memory: *mut u8,
@@ -176,7 +190,9 @@ extern "C" {
         bytes: *const u8,
         bytes_length: usize,
     ) -> PacketResult;
+    #[link_name = symbol!("garoalva_finish")]
     fn garoalva_finish(session: RawSession) -> FinishResult;
+    #[link_name = symbol!("garoalva_abandon")]
     fn garoalva_abandon(session: RawSession) -> AbandonResult;
 }
 
