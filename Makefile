@@ -1,6 +1,6 @@
 # make            builds build/libgaroalva.a and build/libgaroalva.so; it proves the crate capi, so rt must be on the path
-# make test       tests the header, both libraries as installed, the C API, the Rust crate, the model, and the library
-#                 against the model
+# make test       tests the header, both libraries as installed, the C API, that a library with other structs does not
+#                 link, the Rust crate, the model, and the library against the model
 # make bench      runs bench/run; QUICK=--quick for a short run
 # make install    PREFIX=/usr/local DESTDIR=
 # make clean
@@ -29,7 +29,7 @@ WITH_STATIC := $$($(PKG_CONFIG) --cflags garoalva) $$($(PKG_CONFIG) --variable=a
 
 PROVED := $(wildcard crates.txt) $(shell test -d crates && find crates -name '*.rt' -o -name '*.antt')
 
-.PHONY: all test test-header test-c test-rust test-reference bench install clean
+.PHONY: all test test-header test-c test-versions test-rust test-reference bench install clean
 .DELETE_ON_ERROR:
 
 all: build/libgaroalva.a build/libgaroalva.so
@@ -67,7 +67,7 @@ build/libgaroalva.so: build/$(SHARED)
 	ln -sf $(SHARED) build/$(SONAME)
 	ln -sf $(SONAME) $@
 
-test: test-header test-c test-rust test-reference
+test: test-header test-c test-versions test-rust test-reference
 	tests/run
 
 # A field that is too narrow can leave all sizes and offsets as asserted, but then padding follows it: -Wpadded.
@@ -89,6 +89,10 @@ test-c: all
 	$(COMPILE) tests/c/*.c -o build/tests-static $(WITH_STATIC)
 	LD_LIBRARY_PATH=$(STAGE)/lib build/tests-shared $(VERSION) $$($(PKG_CONFIG) --modversion garoalva)
 	build/tests-static $(VERSION)
+
+# A library with other structs must not link.
+test-versions: all
+	CC='$(CC)' AR='$(AR)' NM='$(NM)' tests/versions/run $(STRUCT_VERSION)
 
 test-rust: build/libgaroalva.a
 	$(CARGO) test $(CRATE)
