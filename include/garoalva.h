@@ -66,13 +66,13 @@ extern "C" {
 #endif
 
 /* The version of this header: 0.N.0, where N is the struct version. garoalva_version returns the library's. */
-#define GAROALVA_VERSION "0.1.0"
-#define GAROALVA_STRUCT_VERSION 1 /* the lowest byte of each seal, and the end of each symbol below: digits alone */
+#define GAROALVA_VERSION "0.2.0"
+#define GAROALVA_STRUCT_VERSION 2 /* the lowest byte of each seal, and part of symbols, so digits alone */
 
 /*
- * The symbol of a function that takes or returns a struct is its name and the struct version, as garoalva_fresh_v1. A
- * program that was built for other structs therefore does not link with this library. C and C++ code uses the name
- * alone, and these macros complete it. A program that calls dlsym asks for the whole symbol.
+ * The symbol of a function that takes or returns a struct is its name, _v and the struct version. So a program that was
+ * built for other structs does not link with this library. C and C++ code uses the name alone; these macros add the
+ * rest. A program that calls dlsym asks for the whole symbol.
  */
 #define GAROALVA_JOIN_TOKENS(name, version) name##_v##version
 #define GAROALVA_JOIN(name, version) GAROALVA_JOIN_TOKENS(name, version)

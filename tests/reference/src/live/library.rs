@@ -143,7 +143,7 @@ const _: () = {
 /// The symbol of a call: by the header, its name and the struct version.
 macro_rules! symbol {
     ($name:literal) => {
-        concat!($name, "_v1")
+        concat!($name, "_v2")
     };
 }
 
