@@ -38,9 +38,11 @@ const char *garoalva_answer_text(uint64_t answer) {
     case GAROALVA_ANSWER_NOT_CONFIGURED:
         return "the key was never configured";
     case GAROALVA_ANSWER_NOT_A_KEY:
-        return "the struct is not a key of the library's version";
+        return "the struct is not a key of the library's version; an accepted open, a refused finish and a refused "
+               "abandon return none";
     case GAROALVA_ANSWER_NOT_A_SESSION:
-        return "the struct is not a session of the library's version, or the session has ended";
+        return "the struct is not a session of the library's version; a refused open and an accepted finish return "
+               "none";
     default:
         return "unknown answer";
     }

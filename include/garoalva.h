@@ -29,6 +29,14 @@
  * is not a key or session of this version is refused (1000, 1001). One that looks valid but came from elsewhere is used
  * as it stands. No struct, whatever it holds, makes a call touch a byte that it was not lent.
  *
+ * Old copies. Keys and sessions are values, and no call can tell an old copy from the current one:
+ *   - An old copy of a key knows nothing of an error that a later transfer found. After a damaged receive, a caller who
+ *     drops the key that garoalva_receive returned, and checks the old one, is told "no error".
+ *   - An old copy of a session is still a session, even after garoalva_finish or garoalva_abandon. Packets that are
+ *     passed to it again are accepted, and written again at the places where that old session stood.
+ * So assign the struct that a call returns over the old one at once, as in key = result.key. The compiler warns of a
+ * result that is dropped as a whole, but not of an old copy that is used.
+ *
  * The caller's duties. No proof can see across the C API, so these are left to the caller:
  *   - Each pointer points to as many bytes as the length beside it says. It may be null where that length is 0.
  *   - The bytes that a call writes overlap no other bytes lent to the same call.
@@ -146,8 +154,14 @@ enum garoalva_answer {
     GAROALVA_ANSWER_LONG_PACKET = 12,     /* the packet is longer than the wire bytes still to come */
     GAROALVA_ANSWER_BYTES_TO_COME = 13,   /* finish, but not all wire bytes have arrived */
     GAROALVA_ANSWER_NOT_CONFIGURED = 14,  /* the key was never configured */
-    GAROALVA_ANSWER_NOT_A_KEY = 1000,     /* the struct is not a key of this version */
-    GAROALVA_ANSWER_NOT_A_SESSION = 1001  /* the struct is not a session of this version, or the session has ended */
+
+    /* The struct is not a key of this version. Where a result holds no key, its key member is such a struct: after an
+     * accepted open, a refused finish and a refused abandon. */
+    GAROALVA_ANSWER_NOT_A_KEY = 1000,
+
+    /* The struct is not a session of this version. Where a result holds no session, its session member is such a
+     * struct: after a refused open and an accepted finish. An old copy of a session that has ended is not refused. */
+    GAROALVA_ANSWER_NOT_A_SESSION = 1001
 };
 
 /* One side of a transfer. If kind is GAROALVA_KIND_NONE, the other numbers are ignored. */
@@ -264,7 +278,7 @@ typedef struct {
 } garoalva_check_result;
 
 typedef struct {
-    garoalva_key key;         /* if refused, the key that was passed; if done, go on with the session instead */
+    garoalva_key key;         /* if refused, the key that was passed; if done, not a key: go on with the session */
     garoalva_session session; /* if done; otherwise it is not a session */
     uint64_t answer;
 } garoalva_open_result;
@@ -371,10 +385,11 @@ garoalva_check_result garoalva_check(garoalva_key key);
  * offset         byte of the layout at which the memory stream begins
  * data_length    bytes of data, without fields; whole blocks if a side is signed; may be 0
  *
- * Returns a session that holds the key, and answer 0.
+ * Returns a session that holds the key, and answer 0. The result's key is then not a key: each call refuses it (1000).
+ * garoalva_finish or garoalva_abandon returns the key to go on with.
  *
  * Refused with the first that applies of NOT_A_KEY (1000), NOT_CONFIGURED (14), MEMORY_LENGTH (8), PARTIAL_BLOCK (9)
- * and PAST_LAYOUT (10). The key is then returned unchanged.
+ * and PAST_LAYOUT (10). The key is then returned unchanged, and the result's session is not a session.
  *
  * A whole receive by packets. Each packet's result is the argument of the next call, which saves a copy of the session:
  *
@@ -391,6 +406,9 @@ garoalva_check_result garoalva_check(garoalva_key key);
  *     if (finish.answer != GAROALVA_ANSWER_DONE)
  *         return refused(finish.answer);
  *     garoalva_check_result check = garoalva_check(finish.key);
+ *     if (check.answer != GAROALVA_ANSWER_DONE)
+ *         return refused(check.answer);
+ *     key = check.key;
  */
 GAROALVA_NODISCARD
 garoalva_open_result garoalva_open(garoalva_key key, const uint8_t *memory, size_t memory_length, uint64_t offset,
@@ -422,7 +440,7 @@ garoalva_packet_result garoalva_packet(garoalva_session session, uint8_t *memory
  * holds the first error. Memory and key are then as one garoalva_receive of the same bytes would have left them.
  *
  * Refused with the first that applies of NOT_A_SESSION (1001) and BYTES_TO_COME (13). The session is then returned
- * unchanged, and the receive can go on.
+ * unchanged, and the receive can go on. The result's key is not a key.
  */
 GAROALVA_NODISCARD
 garoalva_finish_result garoalva_finish(garoalva_session session);
@@ -434,7 +452,7 @@ garoalva_finish_result garoalva_finish(garoalva_session session);
  * Returns the key that was passed to open, and answer 0. If that key held no error and a block that arrived whole is
  * bad, the returned key holds the first error. What has arrived stays in memory.
  *
- * Refused with NOT_A_SESSION (1001). The result then holds no key.
+ * Refused with NOT_A_SESSION (1001). The result's key is then not a key.
  */
 GAROALVA_NODISCARD
 garoalva_abandon_result garoalva_abandon(garoalva_session session);

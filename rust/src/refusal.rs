@@ -125,8 +125,14 @@ impl Display for Refusal {
             Refusal::LongPacket => "the packet is longer than the wire bytes still to come",
             Refusal::BytesToCome => "not all wire bytes have arrived",
             Refusal::NotConfigured => "the key was never configured",
-            Refusal::NotAKey => "the struct is not a key of the library's version",
-            Refusal::NotASession => "the struct is not a session of the library's version, or the session has ended",
+            Refusal::NotAKey => {
+                "the struct is not a key of the library's version; an accepted open, a refused finish and a refused \
+                 abandon return none"
+            }
+            Refusal::NotASession => {
+                "the struct is not a session of the library's version; a refused open and an accepted finish return \
+                 none"
+            }
             Refusal::Unknown(number) => {
                 return write!(
                     f,

@@ -2,6 +2,7 @@
 #include "tests.h"
 #include <stdio.h>
 #include <stdlib.h>
+#include <string.h>
 
 static int checks, failures;
 
@@ -32,8 +33,13 @@ garoalva_key configured_key(garoalva_domain memory, garoalva_domain wire) {
     return configured.key;
 }
 
+bool same_key(garoalva_key a, garoalva_key b) { return memcmp(&a, &b, sizeof a) == 0; }
+
+bool same_session(garoalva_session a, garoalva_session b) { return memcmp(&a, &b, sizeof a) == 0; }
+
 int main(int count, char **arguments) {
     test_null_pointers();
+    test_copies();
     test_texts();
     test_versions(count - 1, arguments + 1);
     printf("C API: %d checks, %d failed\n", checks, failures);

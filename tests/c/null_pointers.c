@@ -2,10 +2,6 @@
 #include "tests.h"
 #include <string.h>
 
-static bool same_key(garoalva_key a, garoalva_key b) { return memcmp(&a, &b, sizeof a) == 0; }
-
-static bool same_session(garoalva_session a, garoalva_session b) { return memcmp(&a, &b, sizeof a) == 0; }
-
 /* A key with a seal of no version. */
 static garoalva_key damaged_key(garoalva_key key) {
     key.seal ^= 0xFF;

@@ -1,4 +1,4 @@
-/* Tests of the C API that need no model: null pointers, texts and versions. */
+/* Tests of the C API that need no model: null pointers, copies of keys and sessions, texts and versions. */
 #ifndef TESTS_H
 #define TESTS_H
 
@@ -10,6 +10,7 @@
 void check(bool holds, const char *condition, const char *file, int line);
 
 void test_null_pointers(void);
+void test_copies(void);
 void test_texts(void);
 /* Holds each of these versions, and the struct version, to the library's own. */
 void test_versions(int count, char **versions);
@@ -20,5 +21,9 @@ enum { BLOCK = 8, DATA = 2 * BLOCK, STREAM = DATA + 2 * GAROALVA_FIELD_SIZE };
 garoalva_domain signed_domain(uint32_t guard_type);
 /* A key for these two sides, over STREAM bytes of memory in one piece. All bytes of a field are checked. */
 garoalva_key configured_key(garoalva_domain memory, garoalva_domain wire);
+
+/* Whether two structs are the same bit by bit. */
+bool same_key(garoalva_key a, garoalva_key b);
+bool same_session(garoalva_session a, garoalva_session b);
 
 #endif

@@ -396,7 +396,7 @@ pub mod answer {
     pub const LONG_PACKET: u64 = 12;
     pub const BYTES_TO_COME: u64 = 13;
     pub const NOT_CONFIGURED: u64 = 14;
-    /// The C API adds two answers: a struct is no key, or it is no session or the session has ended.
+    /// The C API adds two answers: a struct is no key, or it is no session.
     pub const NOT_A_KEY: u64 = 1000;
     pub const NOT_A_SESSION: u64 = 1001;
 }
