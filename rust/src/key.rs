@@ -22,7 +22,17 @@ pub struct Key {
     pub(crate) raw: ffi::Key,
 }
 
-/// An open that was refused.
+/// An open that was refused. It holds the key, so that a caller can go on with it:
+///
+/// ```
+/// # use garoalva::*;
+/// fn open_or_return(key: Key, memory: &[u8]) -> Result<Session, Key> {
+///     key.open(memory, LayoutOffset(0), 16).map_err(|refused| refused.key)
+/// }
+/// assert!(open_or_return(Key::new(), &[]).is_err());
+/// ```
+///
+/// In a function that returns a [`Refusal`], `?` keeps the refusal and drops the key.
 #[derive(Debug)]
 pub struct OpenRefused {
     /// The key that was passed to open, unchanged.
@@ -82,8 +92,8 @@ impl Key {
         })
     }
 
-    /// Returns the first error since the last check, and removes it from the key. Only a library of another version
-    /// than this crate's refuses this.
+    /// Returns the first error since the last check, and removes it from the key. The library that belongs to this crate
+    /// never refuses this.
     pub fn check(&mut self) -> Result<Option<BlockError>, Refusal> {
         let checked = ffi::check(self.raw);
         let error = BlockError::of(&checked)?;
@@ -119,8 +129,18 @@ impl Debug for Key {
 
 impl Display for OpenRefused {
     fn fmt(&self, f: &mut Formatter<'_>) -> std::fmt::Result {
-        write!(f, "open was refused: {}", self.refusal)
+        f.write_str("open was refused")
     }
 }
 
-impl Error for OpenRefused {}
+impl Error for OpenRefused {
+    fn source(&self) -> Option<&(dyn Error + 'static)> {
+        Some(&self.refusal)
+    }
+}
+
+impl From<OpenRefused> for Refusal {
+    fn from(refused: OpenRefused) -> Self {
+        refused.refusal
+    }
+}

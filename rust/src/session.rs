@@ -31,7 +31,16 @@ pub struct Session {
     pub(crate) raw: ffi::Session,
 }
 
-/// A finish or abandon that was refused.
+/// A finish or abandon that was refused. It holds the session, so that a caller can go on with it:
+///
+/// ```
+/// # use garoalva::*;
+/// fn finish_if_whole(session: Session) -> Result<Key, Session> {
+///     session.finish().map_err(|refused| refused.session)
+/// }
+/// ```
+///
+/// In a function that returns a [`Refusal`], `?` keeps the refusal and drops the session, and the session's key with it.
 #[derive(Debug)]
 pub struct EndRefused {
     /// The session, unchanged.
@@ -64,7 +73,7 @@ impl Session {
     }
 
     /// Ends the receive, whatever has arrived. That stays in memory, and the key holds the first error of the blocks that
-    /// arrived whole. Only a library of another version than this crate's refuses this.
+    /// arrived whole. The library that belongs to this crate never refuses this.
     pub fn abandon(self) -> Result<Key, EndRefused> {
         let abandoned = ffi::abandon(self.raw);
         self.ended(abandoned.answer, abandoned.key)
@@ -87,8 +96,18 @@ impl Debug for Session {
 
 impl Display for EndRefused {
     fn fmt(&self, f: &mut Formatter<'_>) -> std::fmt::Result {
-        write!(f, "the session did not end: {}", self.refusal)
+        f.write_str("the session did not end")
     }
 }
 
-impl Error for EndRefused {}
+impl Error for EndRefused {
+    fn source(&self) -> Option<&(dyn Error + 'static)> {
+        Some(&self.refusal)
+    }
+}
+
+impl From<EndRefused> for Refusal {
+    fn from(refused: EndRefused) -> Self {
+        refused.refusal
+    }
+}

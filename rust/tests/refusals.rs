@@ -2,6 +2,8 @@
 
 mod common;
 
+use std::error::Error;
+
 use common::{case_a, configuration, configured, signed, totals, DATA, START, WIRE};
 use garoalva::*;
 
@@ -163,10 +165,6 @@ fn packets_too_long_and_a_finish_too_early() {
     assert_eq!(memory[8..], [0xAA; 8]);
     let early = session.finish().unwrap_err();
     assert_eq!(early.refusal, Refusal::BytesToCome);
-    assert_eq!(
-        early.to_string(),
-        "the session did not end: not all wire bytes have arrived"
-    );
     session = early.session;
     assert_eq!(session.packet(&mut memory, &WIRE[9..]), totals(32, 16));
     assert_eq!(memory, DATA);
@@ -194,10 +192,69 @@ fn a_refused_configure_leaves_the_old_configuration() {
 }
 
 #[test]
+fn a_refused_open_returns_its_key() {
+    let mut memory = DATA;
+    let mut damaged = WIRE;
+    damaged[0] ^= 1;
+    let mut key = configured(&memory, &case_a());
+    key.receive(&mut memory, &damaged, START, 16).unwrap();
+    let refused = key.open(&memory, START, 12).unwrap_err();
+    assert_eq!(refused.refusal, Refusal::PartialBlock);
+    let mut session = refused.key.open(&memory, START, 16).unwrap();
+    assert_eq!(session.packet(&mut memory, &WIRE), totals(32, 16));
+    let mut key = session.finish().unwrap();
+    assert_eq!(key.check().unwrap().map(|error| error.offset), Some(0));
+    assert_eq!(memory, DATA);
+}
+
+fn receive_by_packets(key: Key, memory: &mut [u8], packets: &[&[u8]], data_length: u64) -> Result<Key, Refusal> {
+    let mut session = key.open(memory, START, data_length)?;
+    for packet in packets {
+        session.packet(memory, packet)?;
+    }
+    Ok(session.finish()?)
+}
+
+#[test]
+fn refused_opens_and_ends_become_refusals() {
+    let mut memory = DATA;
+    let mut refusal = |packets: &[&[u8]], data_length| {
+        receive_by_packets(configured(&DATA, &case_a()), &mut memory, packets, data_length).err()
+    };
+    assert_eq!(refusal(&[&WIRE], 12), Some(Refusal::PartialBlock));
+    assert_eq!(refusal(&[&WIRE[..9]], 16), Some(Refusal::BytesToCome));
+    assert_eq!(refusal(&[&WIRE[..9], &WIRE], 16), Some(Refusal::LongPacket));
+    assert_eq!(refusal(&[&WIRE[..9], &WIRE[9..]], 16), None);
+}
+
+/// Returns what an error says, and what each of its sources says.
+fn words(error: Box<dyn Error + Send + Sync>) -> Vec<String> {
+    let first: &dyn Error = &*error;
+    std::iter::successors(Some(first), |&error| error.source())
+        .map(ToString::to_string)
+        .collect()
+}
+
+#[test]
+fn refused_opens_and_ends_have_a_refusal_as_source() {
+    let open = Key::new().open(&DATA, START, 16).unwrap_err();
+    let source = open.source().and_then(|source| source.downcast_ref());
+    assert_eq!(source, Some(&Refusal::NotConfigured));
+    assert_eq!(words(open.into()), ["open was refused", "the key was never configured"]);
+    let session = configured(&DATA, &case_a()).open(&DATA, START, 16).unwrap();
+    let early = session.finish().unwrap_err();
+    let source = early.source().and_then(|source| source.downcast_ref());
+    assert_eq!(source, Some(&Refusal::BytesToCome));
+    assert_eq!(
+        words(early.into()),
+        ["the session did not end", "not all wire bytes have arrived"]
+    );
+}
+
+#[test]
 fn refusals_have_numbers_and_words() {
-    let refused = Key::new().open(&DATA, START, 16).unwrap_err();
-    assert_eq!(refused.refusal.number(), 14);
-    assert_eq!(refused.to_string(), "open was refused: the key was never configured");
+    assert_eq!(Refusal::NotConfigured.number(), 14);
+    assert_eq!(Refusal::NotConfigured.to_string(), "the key was never configured");
     assert_eq!(Refusal::Unknown(77).number(), 77);
     assert_eq!(
         Refusal::Unknown(77).to_string(),
