@@ -118,6 +118,11 @@ impl Plan {
         Call::Open { memory: self.memory, offset: self.offset, data_length: self.data_length }
     }
 
+    /// Returns a call of each kind that takes a key.
+    pub fn calls_on_key(&self) -> [Call; 5] {
+        [self.configure(), self.send(), self.receive(), Call::Check, self.open()]
+    }
+
     pub fn packet(&self, at: u64, count: u64) -> Call {
         Call::Packet { memory: self.memory, at, count }
     }

@@ -10,6 +10,7 @@ pub const BUFFER_SIZE: usize = 16_384;
 pub enum Call {
     New,
     Unseal,
+    Reseal,
     FillMemory { pattern: u64 },
     FillWire { pattern: u64 },
     SetMemory { at: u64, count: u64, byte: u8 },
@@ -29,6 +30,7 @@ impl Call {
         match self {
             Call::New => 'N',
             Call::Unseal => 'Z',
+            Call::Reseal => 'Y',
             Call::FillMemory { .. } => 'M',
             Call::FillWire { .. } => 'W',
             Call::SetMemory { .. } => 'm',
@@ -47,7 +49,7 @@ impl Call {
     /// The numbers after the letter.
     pub fn numbers(&self) -> Vec<u64> {
         match *self {
-            Call::New | Call::Unseal | Call::Check | Call::Finish | Call::Abandon => vec![],
+            Call::New | Call::Unseal | Call::Reseal | Call::Check | Call::Finish | Call::Abandon => vec![],
             Call::FillMemory { pattern } | Call::FillWire { pattern } => vec![pattern],
             Call::SetMemory { at, count, byte } | Call::SetWire { at, count, byte } => vec![at, count, byte.into()],
             Call::Configure { memory, ref configuration } => configure_numbers(memory, configuration),
@@ -64,6 +66,7 @@ impl Call {
         Some(match (letter, numbers) {
             ('N', []) => Call::New,
             ('Z', []) => Call::Unseal,
+            ('Y', []) => Call::Reseal,
             ('M', &[pattern]) => Call::FillMemory { pattern },
             ('W', &[pattern]) => Call::FillWire { pattern },
             ('m', &[at, count, byte]) => Call::SetMemory { at, count, byte: byte.try_into().ok()? },
@@ -217,6 +220,7 @@ impl Machine {
         match *call {
             Call::New => (self.key, self.sealed, self.session) = (Key::default(), true, None),
             Call::Unseal => self.sealed = false,
+            Call::Reseal => self.sealed = true,
             Call::FillMemory { pattern } => fill(&mut self.memory, pattern),
             Call::FillWire { pattern } => fill(&mut self.wire, pattern),
             Call::SetMemory { at, count, byte } => self.memory[at as usize..][..count as usize].fill(byte),
@@ -254,12 +258,12 @@ impl Machine {
         }
     }
 
-    /// An accepted open keeps the session. The key stays too: it is a struct, and the caller may have copied it.
+    /// Open: if accepted, the session is kept, and the key becomes the returned one, which has no seal.
     fn open(&mut self, memory: u64, offset: u64, data_length: u64) -> u64 {
         match self.key.open(&self.memory[..memory as usize], offset, data_length) {
             Ok(session) => {
                 self.left = self.memory[..memory as usize].to_vec();
-                self.session = Some(session);
+                (self.sealed, self.session) = (false, Some(session));
                 answer::DONE
             }
             Err(refusal) => refusal,

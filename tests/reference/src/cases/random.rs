@@ -100,6 +100,9 @@ impl Draft {
             if self.rng.percent(12) {
                 self.refused_packet(&plan);
             }
+            if self.rng.percent(5) {
+                self.call_beside_session(&plan);
+            }
             self.make_sometimes(4, Call::Finish);
             self.make(plan.packet(at, count));
             at += count;
@@ -125,6 +128,13 @@ impl Draft {
             _ => (other, long),
         };
         self.make(Call::Packet { memory, at, count });
+    }
+
+    /// Makes a call with the key that open returned, which has no seal, or sometimes with a copy from before.
+    fn call_beside_session(&mut self, plan: &Plan) {
+        self.make_sometimes(30, Call::Reseal);
+        let at = self.rng.pick(&[0, 1, 2, 3, 4]);
+        self.make(plan.calls_on_key()[at].clone());
     }
 
     fn end_session(&mut self, plan: &Plan) {
@@ -185,7 +195,9 @@ mod tests {
             let mut machine = Machine::new(BUFFER_SIZE, BUFFER_SIZE);
             for call in case(1, number).calls {
                 match machine.run(&call) {
-                    Some(numbers) if call == Call::Check => types[numbers[1] as usize] += 1,
+                    Some(numbers) if call == Call::Check && numbers[0] == answer::DONE => {
+                        types[numbers[1] as usize] += 1;
+                    }
                     Some(numbers) => *answers.entry(numbers[0]).or_default() += 1,
                     None => {}
                 }
@@ -197,7 +209,7 @@ mod tests {
     #[test]
     fn most_random_cases_are_interesting() {
         let (answers, types) = outcomes(1_000);
-        let wanted = (answer::DONE..=answer::NOT_CONFIGURED).chain([answer::NOT_A_SESSION]);
+        let wanted = (answer::DONE..=answer::NOT_CONFIGURED).chain([answer::NOT_A_KEY, answer::NOT_A_SESSION]);
         assert_eq!(answers.keys().copied().collect::<Vec<_>>(), wanted.collect::<Vec<_>>());
         assert!(answers[&answer::DONE] > answers.values().sum::<usize>() / 2, "{answers:?}");
         assert!(types.iter().all(|&checks| checks > 50), "{types:?}");

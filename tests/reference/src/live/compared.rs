@@ -33,8 +33,8 @@ fn compare_call(model: &mut Machine, state: &mut State, call: &Call) -> Option<(
     if reply.numbers != expected {
         return differs(&format!("{expected:?}"), &format!("{:?}", reply.numbers));
     }
-    if expected[0] != answer::DONE && !reply.struct_kept {
-        return differs("a refusal leaves the struct as it was", "another struct");
+    if !reply.structs_right {
+        return differs("the key and the session that the header describes", "others");
     }
     if !state.memory.guards_are_intact() || !state.wire.guards_are_intact() {
         return differs("no byte outside the buffers changes", "a guard byte changed");

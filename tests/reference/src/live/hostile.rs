@@ -5,7 +5,7 @@
 mod damage;
 
 use super::guarded::Lending;
-use super::library::{RawKey, RawSession, NO_SESSION};
+use super::library::{self, RawKey, RawSession, NO_SESSION};
 use super::state::{Reply, State};
 use super::trial::Fault;
 use crate::cases::random::plans;
@@ -31,7 +31,7 @@ impl HostileCase {
         let mut rng = Rng::of_case(seed, number);
         let plan = plans::plan(&mut rng);
         let setup = setup(&mut rng, &plan);
-        let calls = (0..rng.between(1, 6)).map(|_| some_call(&mut rng, &plan)).filter(fits).collect();
+        let calls = (0..rng.between(1, 6)).flat_map(|_| some_calls(&mut rng, &plan)).filter(fits).collect();
         let name = format!("hostile case {number} of seed {seed}");
         HostileCase { name, setup, damage: Damage::Random(rng), calls }
     }
@@ -60,7 +60,9 @@ impl HostileCase {
         self.damage.apply(&mut state);
         for call in &self.calls {
             let before = Before::of(&state);
-            let reply = state.run(call).expect("each of these calls returns numbers");
+            let Some(reply) = state.run(call) else {
+                continue;
+            };
             judge(call, &seals, &before, &reply, &state).map_err(|words| Fault {
                 words: words.to_string(),
                 more: format!("answer of {}: {:?}", call.text(), reply.numbers),
@@ -115,11 +117,21 @@ fn setup(rng: &mut Rng, plan: &Plan) -> Vec<Call> {
     let mut calls = vec![Call::FillMemory { pattern: rng.number() }, Call::FillWire { pattern: rng.number() }];
     calls.extend(plan.prepare(Direction::Receive));
     let taken = rng.below(plan.wire_stream() + 1);
-    calls.extend([plan.configure(), plan.open(), plan.packet(0, taken)]);
+    calls.extend([plan.configure(), plan.open(), plan.packet(0, taken), Call::Reseal]);
     if rng.percent(30) {
         calls.extend([Call::FillWire { pattern: 9 }, plan.receive()]);
     }
     calls
+}
+
+/// Returns some call. An open is mostly followed by a line that restores the seal, so that the key is used further.
+fn some_calls(rng: &mut Rng, plan: &Plan) -> Vec<Call> {
+    let call = some_call(rng, plan);
+    if matches!(call, Call::Open { .. }) && rng.percent(80) {
+        vec![call, Call::Reseal]
+    } else {
+        vec![call]
+    }
 }
 
 fn some_call(rng: &mut Rng, plan: &Plan) -> Call {
@@ -139,9 +151,8 @@ fn some_call(rng: &mut Rng, plan: &Plan) -> Call {
 }
 
 fn every_call(plan: &Plan) -> Vec<Call> {
-    let on_key = [plan.configure(), plan.send(), plan.receive(), Call::Check, plan.open()];
     let on_session = [plan.packet(0, 0), Call::Finish, Call::Abandon];
-    on_key.into_iter().chain(on_session).collect()
+    plan.calls_on_key().into_iter().chain(on_session).collect()
 }
 
 /// The seals, which are the first words, of a valid key and a valid session.
@@ -154,7 +165,7 @@ struct Seals {
 impl Seals {
     fn of(state: &State) -> Seals {
         let session = (state.session != NO_SESSION).then_some(state.session.words[0]);
-        Seals { key: state.key.words[0], session }
+        Seals { key: library::fresh().words[0], session }
     }
 }
 
@@ -195,7 +206,7 @@ fn judge(call: &Call, seals: &Seals, before: &Before, reply: &Reply, state: &Sta
             before.has_right_seal(call, seals) || answer == refusal,
             "a struct without the right seal was not refused as such",
         ),
-        (answer == answer::DONE || reply.struct_kept, "a refused call changed the struct"),
+        (reply.structs_right, "a call returned another struct than it must"),
         (state.memory.guards_are_intact(), "bytes outside the memory changed"),
         (state.wire.guards_are_intact(), "bytes outside the wire changed"),
         (memory[writable_memory..] == before.memory[writable_memory..], "memory changed that must not"),

@@ -18,13 +18,21 @@ pub struct RawSession {
     pub words: [u64; 57],
 }
 
+impl RawKey {
+    /// Returns the key with 0 as its seal: what an accepted open returns as the key.
+    pub fn unsealed(mut self) -> RawKey {
+        self.words[0] = 0;
+        self
+    }
+}
+
 impl RawSession {
-    /// Returns what a refused finish or abandon returns as the key: the session's own key, with 0 as its seal. By the
+    /// Returns the session's own key with 0 as its seal: what a refused finish or abandon returns as the key. By the
     /// header, the session's key follows the session's seal.
     pub fn unsealed_key(&self) -> RawKey {
         let mut key = RawKey { words: [0; 45] };
-        key.words[1..].copy_from_slice(&self.words[2..46]);
-        key
+        key.words.copy_from_slice(&self.words[1..46]);
+        key.unsealed()
     }
 }
 

@@ -17,9 +17,10 @@ pub struct State {
 pub struct Reply {
     /// The numbers that are printed.
     pub numbers: Vec<u64>,
-    /// Whether the returned key or session is the one that was passed. Finish and abandon return the session's key too: it
-    /// must be the same but for its seal, which is 0.
-    pub struct_kept: bool,
+    /// Whether the returned structs are right, as far as that can be told without the model. A refused call must return the
+    /// key or session that was passed. Where there is no key to return, after an accepted open and a refused finish or
+    /// abandon, it must be the key with 0 as its seal. After a refused open it must be a session that is refused.
+    pub structs_right: bool,
 }
 
 impl State {
@@ -36,7 +37,8 @@ impl State {
     pub fn run(&mut self, call: &Call) -> Option<Reply> {
         match *call {
             Call::New => (self.key, self.session) = (library::fresh(), NO_SESSION),
-            Call::Unseal => self.key.words[0] = 0,
+            Call::Unseal => self.key = self.key.unsealed(),
+            Call::Reseal => self.key.words[0] = library::fresh().words[0],
             Call::FillMemory { pattern } => fill(self.memory.all_mut(), pattern),
             Call::FillWire { pattern } => fill(self.wire.all_mut(), pattern),
             Call::SetMemory { at, count, byte } => self.memory.slice_mut(at, count).fill(byte),
@@ -64,13 +66,13 @@ impl State {
     /// Keeps the key that a call returned.
     fn with_key(&mut self, key: RawKey, numbers: Vec<u64>) -> Reply {
         let given = std::mem::replace(&mut self.key, key);
-        Reply { numbers, struct_kept: given == key }
+        Reply { structs_right: numbers[0] == answer::DONE || given == key, numbers }
     }
 
     /// Keeps the session that a call returned.
     fn with_session(&mut self, session: RawSession, numbers: Vec<u64>) -> Reply {
         let given = std::mem::replace(&mut self.session, session);
-        Reply { numbers, struct_kept: given == session }
+        Reply { structs_right: numbers[0] == answer::DONE || given == session, numbers }
     }
 
     fn configure(&mut self, memory: u64, configuration: &Configuration) -> Reply {
@@ -96,13 +98,18 @@ impl State {
         self.with_key(done.key, numbers)
     }
 
-    /// The key that an accepted open returns is not used: the caller's own key stays.
+    /// The key becomes the returned one. An accepted open also returns a session, which is kept; otherwise the caller's own
+    /// stays.
     fn open(&mut self, memory: u64, offset: u64, data_length: u64) -> Reply {
         let done = library::open(self.key, &self.memory.lend(0, memory), offset, data_length);
-        if done.answer == answer::DONE {
+        let given = std::mem::replace(&mut self.key, done.key);
+        let structs_right = if done.answer == answer::DONE {
             self.session = done.session;
-        }
-        Reply { numbers: vec![done.answer], struct_kept: done.key == self.key }
+            done.key == given.unsealed()
+        } else {
+            done.key == given && library::finish(done.session).answer == answer::NOT_A_SESSION
+        };
+        Reply { numbers: vec![done.answer], structs_right }
     }
 
     fn packet(&mut self, memory: u64, at: u64, count: u64) -> Reply {
@@ -113,21 +120,21 @@ impl State {
     /// An accepted finish returns the key and a struct that is no session; both are kept.
     fn finish(&mut self) -> Reply {
         let done = library::finish(self.session);
-        let key_kept = done.key == self.session.unsealed_key();
+        let key_right = done.answer == answer::DONE || done.key == self.session.unsealed_key();
         if done.answer == answer::DONE {
             self.key = done.key;
         }
         let reply = self.with_session(done.session, vec![done.answer]);
-        Reply { struct_kept: reply.struct_kept && key_kept, ..reply }
+        Reply { structs_right: reply.structs_right && key_right, ..reply }
     }
 
     /// A refused abandon returns no session: the caller's own stays.
     fn abandon(&mut self) -> Reply {
         let done = library::abandon(self.session);
-        let struct_kept = done.key == self.session.unsealed_key();
+        let structs_right = done.answer == answer::DONE || done.key == self.session.unsealed_key();
         if done.answer == answer::DONE {
             (self.key, self.session) = (done.key, NO_SESSION);
         }
-        Reply { numbers: vec![done.answer], struct_kept }
+        Reply { numbers: vec![done.answer], structs_right }
     }
 }

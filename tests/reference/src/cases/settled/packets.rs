@@ -11,7 +11,7 @@ pub fn cases() -> Vec<Case> {
         cases.extend([byte_by_byte(&plan), every_cut(&plan), refusals(&plan)]);
     }
     cases.extend([nothing_to_receive(), ended_sessions(), memory_lengths(), opens_over_a_session(), two_transfers()]);
-    cases.push(unsealed_key());
+    cases.extend([key_of_open(), copied_key(), unsealed_key()]);
     cases
 }
 
@@ -117,12 +117,14 @@ fn memory_lengths() -> Case {
         .then_all([Call::Abandon, Call::Check])
 }
 
-/// A refused open leaves the session in progress; an accepted one replaces it with a new session.
+/// A refused open leaves the session in progress; an accepted one replaces it with a new session. The caller opens with a
+/// copy of the key, as the key that the first open returned is refused.
 fn opens_over_a_session() -> Case {
     let plan = woven_plan(signature(unsigned(), dif()));
     let refused = Plan { offset: 41, ..plan.clone() };
     prepared("opens over a session", &plan)
-        .then_all([plan.open(), plan.packet(0, 20), refused.open(), plan.packet(20, 3)])
+        .then_all([plan.open(), plan.packet(0, 20), plan.open(), plan.packet(20, 3)])
+        .then_all([Call::Reseal, refused.open(), plan.packet(23, 2)])
         .then_all([plan.open(), plan.packet(0, 32), Call::Finish, Call::Check])
 }
 
@@ -135,18 +137,36 @@ fn two_transfers() -> Case {
         .then_all([plan.send(), Call::Check])
 }
 
-/// A key that has lost its seal is refused, and the session goes on without it.
+/// The key that an accepted open returns is refused, and the session goes on without it. The key that finish or abandon
+/// returns is accepted.
+fn key_of_open() -> Case {
+    let plan = woven_plan(signature(unsigned(), dif()));
+    prepared("the key of an accepted open", &plan)
+        .then_all([plan.open(), plan.packet(0, 9)])
+        .then_all(plan.calls_on_key())
+        .then_all([plan.packet(9, 23), Call::Finish, Call::Check, plan.send(), plan.open()])
+        .then_all(plan.calls_on_key())
+        .then_all([Call::Finish, Call::Abandon])
+        .then_all(plan.calls_on_key())
+}
+
+/// A copy of the key that was passed to open: it knows nothing of the session's error, and the session nothing of its
+/// configuration and its error.
+fn copied_key() -> Case {
+    let plan = woven_plan(signature(unsigned(), dif()));
+    let signed = woven_plan(signature(dif(), dif()));
+    prepared("a copy of the key", &plan)
+        .then_all([plan.open(), plan.packet(0, 16), Call::Reseal, Call::Check])
+        .then_all([signed.configure(), signed.send(), plan.packet(16, 16), Call::Check, signed.send()])
+        .then_all([Call::Finish, Call::Check, plan.send()])
+}
+
+/// A key that has lost its seal is refused, and is accepted again with its seal.
 fn unsealed_key() -> Case {
     let plan = woven_plan(signature(unsigned(), dif()));
     prepared("a key without its seal", &plan)
-        .then_all([
-            plan.open(),
-            plan.packet(0, 9),
-            Call::Unseal,
-            plan.configure(),
-            plan.send(),
-            plan.receive(),
-            Call::Check,
-        ])
-        .then_all([plan.open(), plan.packet(9, 23), Call::Finish, Call::Check, plan.send()])
+        .then_all([plan.receive(), Call::Unseal])
+        .then_all(plan.calls_on_key())
+        .then(Call::Reseal)
+        .then_all(plan.calls_on_key())
 }
