@@ -32,6 +32,16 @@ fn clear_seal(state: State) -> State {
     State { key, session }
 }
 
+// Returns the state with the seal of a fresh key in its key. After an accepted open, this is a copy of the key that was
+// passed to open.
+fn restore_seal(state: State) -> State {
+    let fresh = capi::garoalva_fresh();
+    let mut key = state.key;
+    key.seal = fresh.seal;
+    let session = state.session;
+    State { key, session }
+}
+
 fn print_answer(letter: &[u8], answer: u64) {
     lines::print_text(letter);
     lines::print_number(answer);
@@ -111,7 +121,7 @@ fn open(state: State, line: &[u8], memory: &[u8]) -> State {
     if o.answer != 0 {
         return state;
     }
-    let key = state.key;
+    let key = o.key;
     let session = o.session;
     State { key, session }
 }
@@ -175,6 +185,7 @@ fn run_line(state: State, line: &[u8], memory: &mut [u8], wire: &mut [u8]) -> St
     match line[0] {
         b'N' => return fresh_state(),
         b'Z' => return clear_seal(state),
+        b'Y' => return restore_seal(state),
         b'M' => buffers::fill_pattern(memory, number(line, 0)),
         b'W' => buffers::fill_pattern(wire, number(line, 0)),
         b'm' => buffers::change_bytes(memory, line),
