@@ -122,7 +122,7 @@ module _ (r : Rule) (m : Matched r) where
         go : (t : Bool) → signed (r .input) ≡ t → errorDue r p ≡ errorOf r (R .past ++ R .left) (p .input .index)
         go true s =
             rw (s, block-now, R .inGuard, ← found-now)
-            (ap (slotOf (p .input .index * inUnit r)) (judged-right (take (inBlock r) (R .left)) block-bytes (p .input .index) (fieldOf (p .held)) s))
+            (ap (slotOf _) (judged-right (take (inBlock r) (R .left)) block-bytes (p .input .index) (fieldOf (p .held)) s))
         go false s = rw s
 
     -- The output field of the current unit is that of the transfer rule.

@@ -20,28 +20,12 @@ returns-2 : tie.Need-returns-2
 unfolding openAnswer
 returns-2 c = rw (c .before .before .if1 .left, ne-eqb _ _ (c .if2 .taken))
 
-partial-requires : tie.Need-partial-requires
-partial-requires c κs =
-    let e = c .before .before .before in
-    sized (e .before .before .args .key .signature .memory) (configured e .signs .memory)
-
-partial-requires-2 : tie.Need-partial-requires-2
-partial-requires-2 c κs =
-    let e = c .before .before .before .before in
-    sized (e .before .before .args .key .signature .wire) (configured e .signs .wire)
-
 returns-3 : tie.Need-returns-3
 unfolding openAnswer
 returns-3 c =
     let p = c .before in
     let n = p .before .before .before in
     rw (n .before .before .if1 .left, eq-eqb _ _ (n .if2 .left), rw (p .partial2 .ensures, p .before .partial .ensures) at (c .if3 .taken))
-
-past-requires : tie.Need-past-requires
-past-requires c κs =
-    let e = c .before .before .before .before .before .before in
-    let k = e .before .before .args .key in
-    (configured e .bounded, sized (k .signature .memory) (configured e .signs .memory))
 
 returns-4 : tie.Need-returns-4
 unfolding openAnswer
@@ -58,6 +42,22 @@ returns-5 c =
     let p = o .before in
     let n = p .before .before .before in
     rw (n .before .before .if1 .left, eq-eqb _ _ (n .if2 .left), rw (p .partial2 .ensures, p .before .partial .ensures) at (o .if3 .left), sym (c .before .past .ensures) ∙ c .if4 .left)
+
+partial-requires : tie.Need-partial-requires
+partial-requires c κs =
+    let e = c .before .before .before in
+    sized (e .before .before .args .key .signature .memory) (configured e .signs .memory)
+
+partial-requires-2 : tie.Need-partial-requires-2
+partial-requires-2 c κs =
+    let e = c .before .before .before .before in
+    sized (e .before .before .args .key .signature .wire) (configured e .signs .wire)
+
+past-requires : tie.Need-past-requires
+past-requires c κs =
+    let e = c .before .before .before .before .before .before in
+    let k = e .before .before .args .key in
+    (configured e .bounded, sized (k .signature .memory) (configured e .signs .memory))
 
 pub admit-spec : {M : Type 1} → statement M
 admit-spec =

@@ -1,14 +1,15 @@
 -- Each return follows from the tests before it.
 use mathlib.Core.Path.{sym, _∙_}
+use native.Mathlib.Omega.{arith}
 use borrow.Author.Tests.{lt-ltb, le-ltb}
 use borrow.Author.Needs.{needs}
-use Rattle.key.specs.Configuring.{configureAnswer}
+use Rattle.key.specs.Configuring.{memoryLimit, configureAnswer}
 use Rattle.key.proofs.configure_call.answer.Statement.{statement}
 use Rattle.key.proofs.configure_call.answer.Tie as tie
 
 returns : tie.Need-returns
 unfolding configureAnswer
-returns c = rw (lt-ltb _ _ (c .if1 .taken))
+returns c = rw (lt-ltb memoryLimit (c .before .args .memory-length) (omega (arith, c .if1 .taken)))
 
 signature-answer-requires : tie.Need-signature-answer-requires
 signature-answer-requires c κs = search needs

@@ -1,7 +1,9 @@
 -- Each return follows from the tests before it.
 use mathlib.Core.Path.{sym, _∙_}
+use native.Mathlib.Omega.{arith}
 use borrow.Author.Needs.{needs}
 use borrow.Author.Tests.{lt-ltb, le-ltb}
+use Rattle.key.specs.Configuring.{memoryLimit}
 use Rattle.key.proofs.validate.fields_valid.Statement.{statement}
 use Rattle.key.proofs.validate.fields_valid.Tie as tie
 
@@ -9,7 +11,7 @@ returns : tie.Need-returns
 returns c = rw (c .if1 .taken)
 
 returns-2 : tie.Need-returns-2
-returns-2 c = rw (c .before .if1 .left, lt-ltb _ _ (c .if2 .taken))
+returns-2 c = rw (c .before .if1 .left, lt-ltb memoryLimit (c .before .before .args .memory-length) (omega (arith, c .if2 .taken)))
 
 signature-answer-requires : tie.Need-signature-answer-requires
 signature-answer-requires c κs = search needs

@@ -41,7 +41,8 @@ piece-cursor-requires-2 c κs =
     let s = c .before .before .before in
     let a = s .args in
     let most : (a .c .repeat + 1) * a .l .used < a .l .repeat * a .l .used = omega (arith, behind (c .before), s .pre .2, how-many (a .l) (s .pre .1 .used)) in
-    (s .pre .0, lt-of-mul-lt-mul-right (a .l .used) {m = a .c .repeat + 1} {n = a .l .repeat} most, some (a .l .used) (a .l .repeat) most)
+    let more = lt-of-mul-lt-mul-right (a .l .used) {m = a .c .repeat + 1} {n = a .l .repeat} most in
+    (s .pre .0, omega (arith, more), some (a .l .used) (a .l .repeat) most)
 
 returns-2 : tie.Need-returns-2
 returns-2 c =
