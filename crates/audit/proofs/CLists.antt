@@ -14,20 +14,20 @@ use Rattle.engine.specs.Feeding.{fed}
 use Rattle.packets.specs.declared.Session.{Session}
 use Rattle.packets.specs.Sessions.{ruleOf, packetAnswer, packetResultBy, openResult, packetResult, finishResult, finishResultBy, finishAnswer, abandonResult, SessionFromCalls}
 use Rattle.packets.specs.PacketRule.{Call}
-use Rattle.packets.specs.Lists.{Made}
-use Rattle.packets.proofs.Following.{packets-follow-the-rule}
+use Rattle.packets.specs.Lists.{Made, played}
+use Rattle.packets.proofs.Following.{played-made, packets-follow-the-rule}
 use Rattle.cstructs.specs.declared.CSession.{CSession}
 use Rattle.capi.specs.declared.COpenResult.{COpenResult}
 use Rattle.capi.specs.declared.CPacketResult.{CPacketResult}
 use Rattle.capi.specs.declared.CFinishResult.{CFinishResult}
 use Rattle.cstructs.specs.CStructs.{keyToC, sessionToC}
-use Rattle.capi.specs.Calls.{cOpen}
+use Rattle.capi.specs.Calls.{packetResultToC, finishResultToC, abandonResultToC, cOpen}
 use Rattle.capi.specs.ThreeCases.{SessionActsAs}
 use Rattle.capi.proofs.ThreeCases.{c-api}
 use Rattle.audit.specs.CCalls.{Refuses}
-use Rattle.audit.specs.CLists.{CCall, CMade, toC, CDemand3}
+use Rattle.audit.specs.CLists.{CCall, CMade, toC, CDemand3, CEveryListIsMade}
 use Rattle.audit.proofs.Premise.{premise-kept}
-use Rattle.audit.proofs.CCalls.{number-done, finished-kept}
+use Rattle.audit.proofs.CCalls.{no-refusal, number-done, finished-kept}
 
 -- A refused outcome has a refusal.
 record Refusing (o : Outcome) : Type 0 where
@@ -128,3 +128,41 @@ c-demand3 k memory offset dataLength c z calls m =
     let es : cOpen (keyToC k) (length memory) offset dataLength .session ≡ sessionToC (s .session) = rw (e, d) refl in
     let l = below (s .session) (premise-kept .«open» k (length memory) (record { 0 = offset }) dataLength c d) memory (cOpen (keyToC k) (length memory) offset dataLength .session) calls es m in
     record { below = l .below; same = l .same; follows = packets-follow-the-rule k memory (record { 0 = offset }) dataLength c s refl d (l .below) (l .made) }
+
+-- ---- lists that can be made
+
+-- If a session came from the calls, so did an equal one.
+came-too : {s s′ : Session} → s′ ≡ s → SessionFromCalls s → SessionFromCalls s′
+came-too e c = rw e c
+
+c-made-on : {c c′ : CSession} {now : List ℕ} {calls : List CCall} → c′ ≡ c → CMade c now calls → CMade c′ now calls
+c-made-on e m = rw e m
+
+-- A refused outcome has a number that is not 0.
+refuses : (o : Outcome) (r : Refusal) → o ≡ Refused r → Refuses (number o)
+refuses o r e z = no-refusal r (ap number (sym e) ∙ z)
+
+-- A list of calls of the crates below that can be made corresponds to a list of C calls that can be made.
+c-made : (s : Session) → SessionFromCalls s → (now : List ℕ) (calls : List Call) → Made s now calls → CMade (sessionToC s) now (map toC calls)
+unfolding toC
+c-made s c now calls Made.stops = CMade.stops
+c-made s c now calls (Made.accepted bytes answer after {calls = more} b ea em eo rest) =
+    let t = c-api .sessionCame s c .packet now bytes in
+    let k : SessionFromCalls (answer .session) = rw ea (premise-kept .packet s (length now) bytes b c) in
+    CMade.accepted bytes (packetResultToC answer) after b (ap packetResultToC ea ∙ sym (t .0)) (em ∙ sym (t .1)) (ap number eo) (c-made (answer .session) k after more rest)
+c-made s c now calls (Made.refused lent bytes answer after r {calls = more} ea em eo rest) =
+    let t = c-api .sessionCame s c .packet lent bytes in
+    let n = refuses (answer .outcome) r eo in
+    let same : answer .session ≡ s = rw ea (packet-result-same s (length lent) bytes (rw ea at n)) in
+    CMade.refused lent bytes (packetResultToC answer) after (ap packetResultToC ea ∙ sym (t .0)) (em ∙ sym (t .1)) n (c-made (answer .session) (came-too same c) now more rest)
+c-made s c now calls (Made.early answer r {calls = more} ea eo rest) =
+    let same : answer .session ≡ s = rw ea (finished-same s) in
+    let e : finishResultToC answer .session ≡ sessionToC (answer .session) = rw eo refl in
+    CMade.early (finishResultToC answer) (ap finishResultToC ea ∙ sym (c-api .sessionCame s c .finish)) (refuses (answer .outcome) r eo) (c-made-on e (c-made (answer .session) (came-too same c) now more rest))
+c-made s c now calls (Made.finished answer ea eo) =
+    CMade.finished (finishResultToC answer) (ap finishResultToC ea ∙ sym (c-api .sessionCame s c .finish)) (ap number eo)
+c-made s c now calls (Made.abandoned answer ea) = CMade.abandoned (abandonResultToC answer) (ap abandonResultToC ea ∙ sym (c-api .sessionCame s c .abandon))
+
+-- Every list of requests leads to a list of C calls that can be made.
+pub c-every-list-is-made : CEveryListIsMade
+c-every-list-is-made s c now requests b = c-made s c now (played s now requests) (played-made s now requests b)

@@ -5,6 +5,7 @@
 --   toC call                         a call of the crates below, with its result as a C struct
 --   CFollows k memory offset dataLength calls    the list follows 01's packet rule
 --   CDemand3                         the statement
+--   CEveryListIsMade                 the lists that it speaks of can be made
 use mathlib.Core.Path.{_≡_}
 use mathlib.Core.List.{List, [], _∷_, map}
 use Prim.Native.Nat.{ℕ}
@@ -12,10 +13,12 @@ use lib.ListN.{length}
 use Rattle.guard.specs.Guards.{Bytes}
 use Rattle.key.specs.declared.Key.{Key}
 use Rattle.key.specs.Keys.{CameFromCalls}
-use Rattle.packets.specs.Sessions.{openedSession}
+use Rattle.packets.specs.declared.Session.{Session}
+use Rattle.packets.specs.Sessions.{openedSession, SessionFromCalls}
 use Rattle.packets.specs.PacketRule.{Call, Follows}
+use Rattle.packets.specs.Lists.{Request, played, AllBytes}
 use Rattle.cstructs.specs.declared.CSession.{CSession}
-use Rattle.cstructs.specs.CStructs.{keyToC}
+use Rattle.cstructs.specs.CStructs.{keyToC, sessionToC}
 use Rattle.capi.specs.declared.CPacketResult.{CPacketResult}
 use Rattle.capi.specs.declared.CFinishResult.{CFinishResult}
 use Rattle.capi.specs.declared.CAbandonResult.{CAbandonResult}
@@ -82,3 +85,9 @@ CDemand3 =
     → (calls : List CCall)
     → CMade (o .session) memory calls
     → CFollows k memory offset dataLength calls
+
+-- Every list of requests, on a session that came from the calls, leads to a list of C calls that can be made.
+abbrev pub CEveryListIsMade : Type 0
+CEveryListIsMade =
+    (s : Session) → SessionFromCalls s → (now : List ℕ) (requests : List Request) → AllBytes requests
+    → CMade (sessionToC s) now (map toC (played s now requests))

@@ -9,7 +9,7 @@
 --   Stands came now found              they are so, whatever the bytes still to come
 --   packetRule, finishRule             01's answers for a packet and for finish
 --   sessionAfterBytes came             the session after some bytes
---   Accepted, Kept, Early, Ended       what each kind of call returns
+--   Accepted, HandedBack, Kept, Early, Ended    what each kind of call returns
 --   Follows came now s calls           the list, made on session s, follows the packet rule
 use mathlib.Core.Path.{_≡_}
 use mathlib.Core.Bool.{not}
