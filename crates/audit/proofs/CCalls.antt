@@ -217,18 +217,18 @@ c-refused = record {
 
 -- ---- what the caller does not go on with
 
--- The key of an accepted open is not valid.
-opened-key : (c : CKey) (n offset dataLength : ℕ) → cOpen c n offset dataLength .answer ≡ 0 → cKeyValid (cOpen c n offset dataLength .key) ≡ false
+-- The key of an accepted open is the one that it was given, without its seal.
+opened-key : (c : CKey) (n offset dataLength : ℕ) → cOpen c n offset dataLength .answer ≡ 0 → cOpen c n offset dataLength .key ≡ unsealed c
 opened-key c n offset dataLength z = by-test _ (cKeyValid c) valid (λ h. absurd (not-done (ap (λ (a : COpenResult). a .answer) (sym (c-api .invalidKey c h .«open» n offset dataLength)) ∙ z)))
   where
     not-done : notKey ≡ 0 → ⊥
     not-done e = omega arith
 
-    valid : cKeyValid c ≡ true → cKeyValid (cOpen c n offset dataLength .key) ≡ false
+    valid : cKeyValid c ≡ true → cOpen c n offset dataLength .key ≡ unsealed c
     valid h =
         let e = c-api .validKey c h .0 .«open» n offset dataLength in
         let d = number-done (openAnswer (keyFromC c) n offset dataLength) (ap (λ (a : COpenResult). a .answer) (sym e) ∙ z) in
-        rw (e, d) (c-api .unsealedInvalid (keyToC (keyFromC c)))
+        rw (e, d) (ap (λ (k : CKey). unsealed k) (key-back c h))
 
 -- The session of an accepted finish is not valid.
 finished-session : (c : CSession) → cFinish c .answer ≡ 0 → cSessionValid (cFinish c .session) ≡ false
@@ -247,7 +247,7 @@ finished-session c z = by-test _ (cSessionValid c) valid (λ h. absurd (not-done
 -- At most one of the key and the session that a call returns is valid.
 pub c-one-goes-on : COneGoesOn
 c-one-goes-on = record {
-  opened = λ c n offset dataLength. (opened-key c n offset dataLength, λ z. rw (c-refused .«open» c n offset dataLength z .1) (c-api .noSessionInvalid c));
+  opened = λ c n offset dataLength. (λ z. let e = opened-key c n offset dataLength z in (e, rw e (c-api .unsealedInvalid c)), λ z. rw (c-refused .«open» c n offset dataLength z .1) (c-api .noSessionInvalid c));
   finished = λ c. (finished-session c, λ z. rw (c-refused .finish c z .1) (c-api .unsealedInvalid (c .key)));
   abandoned = λ c z. rw (c-refused .abandon c z) (c-api .unsealedInvalid (c .key));
 }

@@ -1,10 +1,11 @@
--- 01's "Numbered answers", for every call: the lines of the table that apply to it, in 01's order, each with its number.
--- The contracts speak of outcomes; here these become numbers, by one definition.
+-- 01's "Numbered answers" for every call: the lines of the table that apply to it, in 01's order, with their numbers.
+-- The contracts speak of outcomes; here these become numbers, by one definition. Fresh returns no answer.
 --
 --   Line, firstOf lines      a line of the table; the number of the first line whose test holds, or 0
---   configureLines, openLines, transferLines, packetLines, finishLines    the lines of each call
+--   configureLines, admissionLines, openLines, transferLines, packetLines, finishLines    the lines of each call
 --   NumberedAnswers          each call returns the first of its lines
---   CNumberedAnswers         so does each call of the C API, after our own numbers 1000 and 1001
+--   keyLine, sessionLine     our own lines for C, 1000 and 1001
+--   CNumberedAnswers         each call of the C API returns the first of its lines, after 1000 or 1001
 use mathlib.Core.Path.{_≡_}
 use mathlib.Core.Bool.{Bool, false, cond, _&&_, _||_, not}
 use mathlib.Core.List.{List, [], _∷_}
@@ -66,11 +67,11 @@ admissionLines k memoryLength offset dataLength more =
     ∷ Line.line 10 (ltb (total (k .layout)) (offset + streamLength (k .signature .memory) dataLength))
     ∷ more
 
--- Open has no more.
+-- Open: 14, 8, 9, 10.
 abbrev pub openLines : (k : Key) (memoryLength offset dataLength : ℕ) → List Line
 openLines k memoryLength offset dataLength = admissionLines k memoryLength offset dataLength []
 
--- A transfer has 11 too.
+-- Send and receive: 14, 8, 9, 10, 11.
 abbrev pub transferLines : (k : Key) (memoryLength wireLength offset dataLength : ℕ) → List Line
 transferLines k memoryLength wireLength offset dataLength =
     admissionLines k memoryLength offset dataLength
@@ -120,7 +121,8 @@ keyLine c = Line.line notKey (not (cKeyValid c))
 abbrev pub sessionLine : (c : CSession) → Line
 sessionLine c = Line.line notSession (not (cSessionValid c))
 
--- So does each call of the C API, whatever the struct; the line of a struct that is no key or no session comes first.
+-- Each call of the C API returns the first of its lines, whatever the struct. The line of a struct that is no key or no
+-- session comes first.
 -- Check returns zeros on a struct of a key that was never configured.
 pub record CNumberedAnswers : Type 0 where
   pub configure :

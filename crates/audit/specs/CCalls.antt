@@ -97,12 +97,14 @@ pub record CRefused : Type 0 where
   pub abandon : (c : CSession) → let a = cAbandon c in Refuses (a .answer) → a .key ≡ unsealed (c .key)
 
 -- Open and finish return a key and a session, of which the caller goes on with one. The other is not valid, whatever
--- struct was passed, so that every call refuses it with 1000 or 1001. Nor is the key of a refused abandon.
+-- struct was passed, so that every call refuses it with 1000 or 1001. Nor is the key of a refused abandon. An accepted
+-- open returns the key that it was given without its seal; `CRefused` has the like for a refused finish and abandon.
 pub record COneGoesOn : Type 0 where
   pub opened :
       (c : CKey) (n offset dataLength : ℕ)
       → let a = cOpen c n offset dataLength in
-      (a .answer ≡ 0 → cKeyValid (a .key) ≡ false) × (Refuses (a .answer) → cSessionValid (a .session) ≡ false)
+      (a .answer ≡ 0 → (a .key ≡ unsealed c) × (cKeyValid (a .key) ≡ false))
+      × (Refuses (a .answer) → cSessionValid (a .session) ≡ false)
   pub finished :
       (c : CSession)
       → let a = cFinish c in

@@ -86,7 +86,8 @@ CDemand3 =
     → CMade (o .session) memory calls
     → CFollows k memory offset dataLength calls
 
--- Every list of requests, on a session that came from the calls, leads to a list of C calls that can be made.
+-- Every list of requests, on a session that came from the calls, leads to a list of C calls that can be made. A packet
+-- that would be accepted is lent the transfer's memory (see `played`).
 abbrev pub CEveryListIsMade : Type 0
 CEveryListIsMade =
     (s : Session) → SessionFromCalls s → (now : List ℕ) (requests : List Request) → AllBytes requests

@@ -6,7 +6,7 @@
 --   sessionM, memoryM                        the session and the memory at open
 --   seen call, all calls                     the numbers that the calls return
 --   CaseM                                    what they are, for both lists
---   CaseMFollows                             both lists can be made, and follow the packet rule
+--   MadeAndFollows requests, CaseMFollows    the lists can be made, and follow the packet rule
 use mathlib.Core.Path.{_≡_}
 use mathlib.Core.List.{List, [], _∷_}
 use Prim.Native.Nat.{ℕ}
@@ -51,7 +51,7 @@ seen (packet lent bytes answer after) = number (answer .outcome) ∷ answer .tak
 seen (finish answer) = number (answer .outcome) ∷ []
 seen (abandon answer) = number (answer .outcome) ∷ []
 
--- Those of all calls.
+-- The numbers of all calls of a list.
 unfoldable pub all : (calls : List Call) → List (List ℕ)
 all [] = []
 all (c ∷ cs) = seen c ∷ all cs
@@ -70,6 +70,6 @@ MadeAndFollows requests =
     Made sessionM memoryM (played sessionM memoryM requests)
     × Follows (keyOver 16 domainA 0xFF) memoryM 0 16 [] memoryM sessionM (played sessionM memoryM requests)
 
--- So it is for both lists.
+-- Both lists can be made and follow the packet rule.
 abbrev pub CaseMFollows : Type 0
 CaseMFollows = MadeAndFollows requestsM × MadeAndFollows abandonedM

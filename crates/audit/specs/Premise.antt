@@ -33,9 +33,10 @@ pub record PremiseKept : Type 0 where
       (k : Key) (memory wire : List ℕ) (offset dataLength : ℕ)
       → CameFromCalls k → CameFromCalls (receiveResult k memory wire offset dataLength .key)
   pub check : (k : Key) → CameFromCalls k → CameFromCalls (checkResult k .key)
-  -- By this a transfer records an error. It requires a configured key, so that check stays at zeros on any other.
+  -- `key::keep_error`, by which a transfer records an error. It requires a configured key: no other key holds one.
   pub keepError :
-      (k : Key) (found : Slot) → k .configured ≡ true → CameFromCalls k → CameFromCalls (withSlot k (keep (k .slot) found))
+      (k : Key) (found : Slot)
+      → k .configured ≡ true → CameFromCalls k → CameFromCalls (withSlot k (keep (k .slot) found))
   -- Sessions, and the keys that they return.
   pub «open» :
       (k : Key) (memoryLength : ℕ) (offset : LayoutOffset) (dataLength : ℕ)

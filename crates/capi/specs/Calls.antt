@@ -3,6 +3,8 @@
 --
 --   notKey, notSession                  our own answers
 --   configureResultToC .. abandonResultToC    what the calls below return, as C structs
+--   sessionOpened, keyOpened, sessionFinished, keyFinished    the key and the session of open and finish
+--   notTransferred k                    what a transfer returns for a struct that is no key
 --   cConfigure, cSend, cReceive, cCheck, cOpen, cPacket, cFinish, cAbandon    what the calls return
 --   wireAfterCSend, memoryAfterCReceive, memoryAfterCPacket    the lent bytes after them
 use mathlib.Core.Bool.{cond}

@@ -100,6 +100,6 @@ pub record CApi : Type 0 where
   -- It is not valid.
   pub invalidKey : (c : CKey) → cKeyValid c ≡ false → NoKey c
   pub invalidSession : (c : CSession) → cSessionValid c ≡ false → NoSession c
-  -- So does what is returned where there is no key or no session.
+  -- Nor is what a call returns where there is no key or no session.
   pub unsealedInvalid : (c : CKey) → cKeyValid (unsealed c) ≡ false
   pub noSessionInvalid : (c : CKey) → cSessionValid (noSession c) ≡ false

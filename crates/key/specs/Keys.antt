@@ -3,7 +3,7 @@
 --   noSignature, noLayout, freshKey       a key that was never configured
 --   withSlot k slot                       the key with another slot
 --   configuredKey k memoryLength c        the key after an accepted configure
---   configureResult k memoryLength c      what configure returns
+--   configureResultBy, configureResult k memoryLength c    what configure returns, for an outcome and for all input
 --   checkResult k                         what check returns
 --   CameFromCalls k                       the key came from these calls: 01's one premise
 --   NeverConfiguredZeros                  check returns zeros on a key that was never configured
@@ -112,7 +112,7 @@ abbrev pub fieldsValid : (configured : Bool) (memoryLength : ℕ) (s : Signature
 fieldsValid configured memoryLength s l =
     not configured || (not (ltb memoryLimit memoryLength) && (accepts (signatureAnswer s) && fits l memoryLength))
 
--- A transfer may run on the key. Its slot does not matter.
+-- The calls may be made on the key. Its slot does not matter.
 unfoldable pub keyValid : (k : Key) → Bool
 keyValid k = fieldsValid (k .configured) (k .«memory_length») (k .signature) (k .layout)
 

@@ -40,7 +40,7 @@ use Rattle.packets.specs.declared.AbandonResult.{AbandonResult}
 use Rattle.packets.specs.Sessions.{sessionAfter, ruleOf, recorded, endedKey, SessionFromCalls, packetAnswer, withProgress, packetResultBy, packetResult, memoryAfterPacket, finishAnswer, finishResultBy, finishResult, abandonResult}
 use Rattle.packets.specs.PacketRule.{Call, packetRule, finishRule, Stands, Accepted, HandedBack, Kept, Early, Ended, Follows}
 use Rattle.packets.specs.PacketRule.Call.{packet, finish}
-use Rattle.packets.specs.Lists.{Made, Request, unlessDone, played, EveryListIsMade}
+use Rattle.packets.specs.Lists.{Made, Request, unlessDone, played, EveryListIsMade, EveryMadeListIsPlayed}
 use Rattle.packets.specs.Demand3.{Demand3}
 use Rattle.transfer.specs.Transferring.{becomes, receiveResult}
 use Rattle.packets.proofs.PacketLaws.{answer-0, finish-done, taken-all, bytes-append, packet-told, session-begun, some-unit}
@@ -333,6 +333,27 @@ played-made s now (Request.packet lent bytes ∷ more) b =
     made-lent s now bytes (b 0) _ lent (packetAnswer s (length lent) (length bytes)) refl (played-made _ _ more (λ i. b (suc i)))
 played-made s now (Request.finish ∷ more) b = made-finish s now _ (finishResult s .outcome) refl (played-made (finishResult s .session) now more (λ i. b (suc i)))
 played-made s now (Request.abandon ∷ more) b = Made.abandoned (abandonResult s) refl
+
+-- Bytes that become themselves stay as they are.
+becomes-same : (o : Outcome) (xs : List ℕ) → becomes o xs xs ≡ xs
+becomes-same Done xs = refl
+becomes-same (Refused r) xs = refl
+
+one-more : {a b : Call} {more more′ : List Call} → a ≡ b → more ≡ more′ → (a ∷ more) ≡ (b ∷ more′)
+one-more e f = rw (e, f) refl
+
+-- What the calls of a list asked for leads to that list.
+pub made-played : EveryMadeListIsPlayed
+unfolding played
+made-played s now calls Made.stops = refl
+made-played s now calls (Made.accepted bytes answer after {calls = more} b ea em eo rest) =
+    rw (becomes-same (packetAnswer s (length now) (length bytes)) now, ← ea, ← em, eo) (one-more refl (made-played (answer .session) after more rest))
+made-played s now calls (Made.refused lent bytes answer after r {calls = more} ea em eo rest) =
+    let e : packetAnswer s (length lent) (length bytes) ≡ Refused r = sym (packet-result-outcome s (length lent) bytes) ∙ (ap (λ (p : PacketResult). p .outcome) (sym ea) ∙ eo) in
+    rw (e, ← ea, ← em, eo) (one-more refl (made-played (answer .session) now more rest))
+made-played s now calls (Made.early answer r {calls = more} ea eo rest) = rw (← ea, eo) (one-more refl (made-played (answer .session) now more rest))
+made-played s now calls (Made.finished answer ea eo) = rw (← ea, eo) refl
+made-played s now calls (Made.abandoned answer ea) = rw ea refl
 
 -- ---- a caller that passes a whole stream in packets
 

@@ -14,9 +14,11 @@ use Rattle.packets.specs.Sessions.{openResult}
 use Rattle.packets.specs.PacketRule.{Call, Follows}
 use Rattle.packets.specs.Lists.{Made}
 
--- From an accepted open of a key that came from these calls, every list of packet, finish and abandon calls, refused
--- ones included, follows 01's packet rule: after each call memory, recorded error and answers are the rule's for the
--- bytes accepted so far, whatever is still to come. Once all bytes have come, they are those of one receive.
+-- From an accepted open of a key that came from these calls, every list of packet, finish and abandon calls that can be
+-- made, refused ones included, follows 01's packet rule: after each call memory, recorded error and answers are the
+-- rule's for the bytes accepted so far, whatever is still to come. Once all bytes have come, they are those of one
+-- receive. That a list can be made (`Made`) says what the order supposes: accepted packets are lent the transfer's
+-- memory, and each call gets the session that the call before returned.
 abbrev pub Demand3 : Type 0
 Demand3 =
     (k : Key) (memory : List ℕ) (offset : LayoutOffset) (dataLength : ℕ)

@@ -1,12 +1,15 @@
 -- Lists of calls as they are made: each call meets its contract on the session that the call before returned.
 --
 --   Made s now calls            the list can be made from session s with memory now
---   Request                     what a caller asks for
+--   Request, packetOf request   what a caller asks for; the bytes of its packet
+--   unlessDone outcome calls    the calls after a finish
 --   played s now requests       the list of calls that these requests lead to
---   AllBytes requests           every packet of the list is bytes
+--   AllBytes requests           every packet that is asked for is bytes
 --   EveryListIsMade             each list that is played can be made
+--   requestOf call              what a call asked for
+--   EveryMadeListIsPlayed       each list that can be made is played for its own requests
 use mathlib.Core.Path.{_≡_}
-use mathlib.Core.List.{List, [], _∷_}
+use mathlib.Core.List.{List, [], _∷_, map}
 use Prim.Native.Nat.{ℕ}
 use lib.ListN.{length, getD}
 use Rattle.guard.specs.Guards.{Bytes}
@@ -63,9 +66,9 @@ abbrev pub unlessDone : (outcome : Outcome) (calls : List Call) → List Call
 unlessDone Done calls = []
 unlessDone (Refused r) calls = calls
 
--- The list of calls that these requests lead to. A packet that would be accepted is lent the transfer's memory as it is,
--- since that is the caller's duty; one that would be refused is lent the memory of the request. The list ends with an
--- accepted finish or an abandon, and requests after it are dropped.
+-- The list of calls that these requests lead to. A packet that would be accepted is lent the transfer's memory as it
+-- is, since that is the caller's duty; one that would be refused is lent the memory of the request. The list ends with
+-- an accepted finish or an abandon, and requests after it are dropped.
 unfoldable pub played : (s : Session) (now : List ℕ) (requests : List Request) → List Call
 played s now [] = []
 played s now (Request.packet lent bytes ∷ more) =
@@ -88,7 +91,19 @@ packetOf Request.abandon = []
 abbrev pub AllBytes : (requests : List Request) → Type 0
 AllBytes requests = (i : ℕ) → Bytes (packetOf (getD requests i Request.finish))
 
--- Every list of requests leads to a list of calls that can be made, from any session and with any memory.
+-- Every list of requests leads to a list of calls that can be made, from any session and with any memory. A packet that
+-- would be accepted is lent the transfer's memory (see `played`).
 abbrev pub EveryListIsMade : Type 0
 EveryListIsMade =
     (s : Session) (now : List ℕ) (requests : List Request) → AllBytes requests → Made s now (played s now requests)
+
+-- What a call asked for.
+abbrev pub requestOf : (call : Call) → Request
+requestOf (Call.packet lent bytes answer after) = Request.packet lent bytes
+requestOf (Call.finish answer) = Request.finish
+requestOf (Call.abandon answer) = Request.abandon
+
+-- No list is left out: what the calls of a list asked for leads to that list.
+abbrev pub EveryMadeListIsPlayed : Type 0
+EveryMadeListIsPlayed =
+    (s : Session) (now : List ℕ) (calls : List Call) → Made s now calls → played s now (map requestOf calls) ≡ calls

@@ -6,10 +6,11 @@
 -- For a transfer (key, memory at open, offset, data length):
 --   rule, wire                         its rule, and the length of its wire stream
 --   memoryAfter, errorAfter            memory and recorded error after some bytes
---   Stands came now found              they are so, whatever the bytes still to come
+--   Stands came now found              the bytes fit, and memory and error are so, whatever the bytes still to come
 --   packetRule, finishRule             01's answers for a packet and for finish
 --   sessionAfterBytes came             the session after some bytes
---   Accepted, HandedBack, Kept, Early, Ended    what each kind of call returns
+--   HandedBack came given returned     a refused call hands back the session that it was given
+--   Accepted, Kept, Early, Ended       what each kind of call returns
 --   Follows came now s calls           the list, made on session s, follows the packet rule
 use mathlib.Core.Path.{_≡_}
 use mathlib.Core.Bool.{not}
@@ -71,8 +72,8 @@ module _ (k : Key) (atOpen : List ℕ) (offset dataLength : ℕ) where
   abbrev pub errorAfter : (came rest : List ℕ) → Slot
   errorAfter came rest = keep (k .slot) (firstError rule (came ++ rest) (length came / inUnit rule))
 
-  -- What holds after the bytes `came`: they are no more than the wire has, so there are bytes `rest` that make it whole.
-  -- Memory and recorded error are the rule's, whatever these are. Once all bytes have come, one receive of them is
+  -- What holds after the bytes `came`. No more came than the wire has, so there are bytes `rest` that make it whole;
+  -- whatever these are, memory and recorded error are the rule's. Once all bytes have come, one receive of them is
   -- accepted, and memory and recorded error are those that it leaves.
   pub record Stands (came now : List ℕ) (found : Slot) : Type 0 where
     pub fits : length came ≤ wire

@@ -9,10 +9,10 @@
 --   SessionFromCalls s                          the session came from these calls: 01's one premise
 --   SessionValid s, sessionValid s              the precondition of the calls, and its test
 --   packetAnswer s memoryLength n               packet's answer: 8, 12, or Done
---   packetResult s memoryLength bytes           what packet returns
+--   packetResultBy, packetResult s memoryLength bytes    what packet returns, for an outcome and for all input
 --   memoryAfterPacket s memory bytes            memory after it
 --   finishAnswer s                              finish's answer: 13, or Done
---   finishResult s, abandonResult s             what finish and abandon return
+--   finishResultBy, finishResult s, abandonResult s      what finish and abandon return
 use mathlib.Core.Path.{_≡_}
 use mathlib.Core.Bool.{Bool, _&&_, not}
 use mathlib.Core.List.{List}

@@ -19,6 +19,7 @@ use Rattle.key.specs.declared.Signature.{Signature}
 use Rattle.key.specs.declared.Configuration.{Configuration}
 use Rattle.key.specs.declared.Outcome.{Outcome}
 use Rattle.key.specs.declared.Outcome.the-variants.{Done, Refused}
+use Rattle.key.specs.declared.Refusal.the-variants.{PartialBlock}
 use Rattle.key.specs.Numbers.{refusalNumber}
 use Rattle.key.specs.Keys.{freshKey, configureResult, checkResult}
 use Rattle.transfer.specs.Transferring.{receiveResult, memoryAfterReceive}
@@ -33,9 +34,9 @@ wireMax = 65536
 abbrev pub unitA : ℕ
 unitA = 16
 
--- The answer for bad input.
+-- The answer for bad input: 01's "refused 9".
 abbrev pub partialBlock : ℕ
-partialBlock = 9
+partialBlock = refusalNumber PartialBlock
 
 -- Case A's wire domain, no memory signature, all check bits.
 abbrev pub signatureA : Signature
