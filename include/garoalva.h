@@ -391,23 +391,23 @@ garoalva_check_result garoalva_check(garoalva_key key);
  * Refused with the first that applies of NOT_A_KEY (1000), NOT_CONFIGURED (14), MEMORY_LENGTH (8), PARTIAL_BLOCK (9)
  * and PAST_LAYOUT (10). The key is then returned unchanged, and the result's session is not a session.
  *
- * A whole receive by packets. Each packet's result is the argument of the next call, which saves a copy of the session:
+ * A whole receive by packets. Each packet's result is the argument of the next call, which saves a copy of the session.
+ * If the receive can't be finished, garoalva_abandon returns the key with the errors found so far. The key is valid
+ * again after either call:
  *
  *     garoalva_open_result open = garoalva_open(key, memory, memory_length, 0, data_length);
+ *     key = open.key;
  *     if (open.answer != GAROALVA_ANSWER_DONE)
- *         return refused(open.answer);
+ *         return open.answer;
  *     garoalva_packet_result packet = {.session = open.session};
- *     while (next_packet(&bytes, &bytes_length)) {
+ *     while (packet.answer == GAROALVA_ANSWER_DONE && next_packet(&bytes, &bytes_length))
  *         packet = garoalva_packet(packet.session, memory, memory_length, bytes, bytes_length);
- *         if (packet.answer != GAROALVA_ANSWER_DONE)
- *             return refused(packet.answer);
- *     }
  *     garoalva_finish_result finish = garoalva_finish(packet.session);
- *     if (finish.answer != GAROALVA_ANSWER_DONE)
- *         return refused(finish.answer);
- *     garoalva_check_result check = garoalva_check(finish.key);
- *     if (check.answer != GAROALVA_ANSWER_DONE)
- *         return refused(check.answer);
+ *     if (finish.answer == GAROALVA_ANSWER_DONE)
+ *         key = finish.key;
+ *     else
+ *         key = garoalva_abandon(packet.session).key;
+ *     garoalva_check_result check = garoalva_check(key);
  *     key = check.key;
  */
 GAROALVA_NODISCARD
@@ -426,7 +426,7 @@ garoalva_open_result garoalva_open(garoalva_key key, const uint8_t *memory, size
  * with its field if the wire is signed, it is checked, and if memory is signed its field is written there.
  *
  * Refused with the first that applies of NOT_A_SESSION (1001), MEMORY_LENGTH (8) and LONG_PACKET (12). The session is
- * then unchanged, nothing is written, and the receive can go on.
+ * then unchanged, and nothing is written. After 8 and 12 the receive can go on.
  */
 GAROALVA_NODISCARD
 garoalva_packet_result garoalva_packet(garoalva_session session, uint8_t *memory, size_t memory_length,
@@ -440,7 +440,7 @@ garoalva_packet_result garoalva_packet(garoalva_session session, uint8_t *memory
  * holds the first error. Memory and key are then as one garoalva_receive of the same bytes would have left them.
  *
  * Refused with the first that applies of NOT_A_SESSION (1001) and BYTES_TO_COME (13). The session is then returned
- * unchanged, and the receive can go on. The result's key is not a key.
+ * unchanged, and after 13 the receive can go on. The result's key is not a key.
  */
 GAROALVA_NODISCARD
 garoalva_finish_result garoalva_finish(garoalva_session session);

@@ -18,6 +18,7 @@ pub struct Totals {
 ///
 /// A key can't be cloned: both keys would report the same error, and a check of one would leave it in the other. For a
 /// second key with the same configuration, keep the [`Configuration`] and configure a new key with it.
+#[must_use = "a key holds the first error found, and check returns it"]
 pub struct Key {
     pub(crate) raw: ffi::Key,
 }
@@ -59,8 +60,8 @@ impl Key {
         Refusal::unless_done(configured.answer)
     }
 
-    /// Moves `data_length` bytes of data from memory to the wire. The memory stream begins at `offset`. Wire bytes after
-    /// the wire stream stay as they are.
+    /// Moves `data_length` bytes of data from memory to the wire. The memory stream begins at `offset`. Wire bytes
+    /// after the wire stream stay as they are.
     pub fn send(
         &mut self,
         memory: &[u8],
@@ -92,8 +93,8 @@ impl Key {
         })
     }
 
-    /// Returns the first error since the last check, and removes it from the key. The library that belongs to this crate
-    /// never refuses this.
+    /// Returns the first error since the last check, and removes it from the key. The library that belongs to this
+    /// crate never refuses this.
     pub fn check(&mut self) -> Result<Option<BlockError>, Refusal> {
         let checked = ffi::check(self.raw);
         let error = BlockError::of(&checked)?;

@@ -14,8 +14,8 @@
 //!
 //! # A receive by packets
 //!
-//! Two blocks of eight bytes go over the wire with their fields. One bit of the second is damaged on the way. Packets of
-//! 9 bytes bring the blocks back into memory, each to a place of its own.
+//! Two blocks of eight bytes go over the wire with their fields. One bit of the second is damaged on the way. Packets
+//! of 9 bytes bring the blocks back into memory, each to a place of its own.
 //!
 //! ```
 //! use garoalva::*;

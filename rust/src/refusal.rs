@@ -9,7 +9,7 @@ use crate::ffi;
 #[derive(Clone, Copy, Debug, PartialEq, Eq)]
 #[non_exhaustive]
 pub enum Refusal {
-    /// A domain is not valid. In this crate only its block size can be wrong: it is not a multiple of 8 from 8 to 4,160.
+    /// A domain is not valid. In this crate only its block size can be wrong: it is no multiple of 8 from 8 to 4,160.
     BadDomain,
     /// A domain with an escape has the application tag 0xFFFF.
     EscapeTag,

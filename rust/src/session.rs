@@ -40,7 +40,7 @@ pub struct Session {
 /// }
 /// ```
 ///
-/// In a function that returns a [`Refusal`], `?` keeps the refusal and drops the session, and the session's key with it.
+/// In a function that returns a [`Refusal`], `?` keeps the refusal and drops the session, with its key.
 #[derive(Debug)]
 pub struct EndRefused {
     /// The session, unchanged.
@@ -72,8 +72,8 @@ impl Session {
         self.ended(finished.answer, finished.key)
     }
 
-    /// Ends the receive, whatever has arrived. That stays in memory, and the key holds the first error of the blocks that
-    /// arrived whole. The library that belongs to this crate never refuses this.
+    /// Ends the receive, whatever has arrived. That stays in memory, and the key holds the first error of the blocks
+    /// that arrived whole. The library that belongs to this crate never refuses this.
     pub fn abandon(self) -> Result<Key, EndRefused> {
         let abandoned = ffi::abandon(self.raw);
         self.ended(abandoned.answer, abandoned.key)
