@@ -2,6 +2,7 @@
 --
 --   entry, twoEntries, domain, configuration, keyOver    what the cases share
 --   numbers, answers, received, checksumSent             what a case shows
+--   domainA, dataA, unit, wire, fieldA, domainH, fieldH, zeros, layoutJ, configureJ    the inputs of the cases
 --   worked, said                                         what the definitions give, and what 01 says
 --   CasesHold                                            they are the same
 use mathlib.Core.Path.{_≡_}

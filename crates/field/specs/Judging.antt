@@ -4,6 +4,7 @@
 --   escaped d found                     the found field escapes its block
 --   checkedMask d mask found            the bytes to check
 --   differs checks found computed       which of the checked bytes differ
+--   digit b, maskOf n set               a bit as a number, and a set of bytes as a mask
 --   differing mask found computed       the set of differing checked bytes, as a mask
 --   mismatch tag computed found         a wrong tag with both its values
 --   firstBad set computed found         the first wrong tag, given the set of differing bytes

@@ -5,8 +5,8 @@
 --   received k memory wire            the key after one receive of the whole wire
 --   checkedAfter k                    what check returns for it
 --   badInput wire more                the input is too long, or ends inside a unit
---   checkOf wire more memory          the program's answer
---   memoryOf wire more memory         the lent memory after it
+--   answerBy, checkOf wire more memory      the program's answer
+--   memoryBy, memoryOf wire more memory     the lent memory after it
 use mathlib.Core.Bool.{Bool, _||_, not, cond}
 use mathlib.Core.List.{List}
 use Prim.Native.Nat.{ℕ, _/_, _%_}
