@@ -43,7 +43,7 @@ not-false true h = refl
 not-false false h = let z : _≡_ {A = ℕ} 0 1 = cc in absurd (omega arith)
 
 -- `refuse` returns Done only if its test is false and the rest is Done.
-refuse-done : (b : Bool) (r : Refusal) (rest : Outcome) → refuse b r rest ≡ Done → (b ≡ false) × (rest ≡ Done)
+pub refuse-done : (b : Bool) (r : Refusal) (rest : Outcome) → refuse b r rest ≡ Done → (b ≡ false) × (rest ≡ Done)
 refuse-done true r rest h = let z : _≡_ {A = ℕ} 0 1 = cc in absurd (omega arith)
 refuse-done false r rest h = (refl, h)
 

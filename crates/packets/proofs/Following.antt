@@ -1,7 +1,6 @@
 -- These laws prove demand 3: every list of calls on a session follows the packet rule.
 use mathlib.Core.Path.{_≡_, refl, sym, ap, _∙_}
-use mathlib.Core.Bool.{Bool, true, false}
-use mathlib.Core.List.{List, [], _∷_, _++_}
+use mathlib.Core.List.{List, [], _∷_, _++_, map}
 use Prim.Native.Nat.{ℕ, suc, _+_, _≤_}
 use native.Mathlib.Nat.{zero-mul}
 use native.Mathlib.Omega.{arith}
@@ -20,11 +19,10 @@ use Rattle.key.specs.declared.Outcome.{Outcome}
 use Rattle.key.specs.declared.Outcome.the-variants.{Done, Refused}
 use Rattle.key.specs.declared.Refusal.{Refusal}
 use Rattle.key.specs.declared.Refusal.the-variants.{BytesToCome}
-use Rattle.key.specs.Numbers.{refuse}
 use Rattle.key.specs.Keys.{CameFromCalls}
 use Rattle.key.specs.Streams.{streamLength}
 use Rattle.key.specs.Admitting.{openAnswer}
-use Rattle.key.proofs.Laws.{came-valid, admitted, came-with-error}
+use Rattle.key.proofs.Laws.{refuse-done, came-valid, admitted, came-with-error}
 use Rattle.engine.specs.declared.Progress.{Progress}
 use Rattle.engine.specs.Streams.{outUnit}
 use Rattle.engine.specs.Feeding.{begun, fed, emitted}
@@ -40,7 +38,7 @@ use Rattle.packets.specs.declared.AbandonResult.{AbandonResult}
 use Rattle.packets.specs.Sessions.{sessionAfter, ruleOf, recorded, endedKey, SessionFromCalls, packetAnswer, withProgress, packetResultBy, packetResult, memoryAfterPacket, finishAnswer, finishResultBy, finishResult, abandonResult}
 use Rattle.packets.specs.PacketRule.{Call, packetRule, finishRule, Stands, Accepted, HandedBack, Kept, Early, Ended, Follows}
 use Rattle.packets.specs.PacketRule.Call.{packet, finish}
-use Rattle.packets.specs.Lists.{Made, Request, unlessDone, played, EveryListIsMade, EveryMadeListIsPlayed}
+use Rattle.packets.specs.Lists.{Made, Request, unlessDone, played, requestOf, EveryListIsMade, EveryMadeListIsPlayed}
 use Rattle.packets.specs.Demand3.{Demand3}
 use Rattle.transfer.specs.Transferring.{becomes, receiveResult}
 use Rattle.packets.proofs.PacketLaws.{answer-0, finish-done, taken-all, bytes-append, packet-told, session-begun, some-unit}
@@ -107,11 +105,9 @@ module _ (k : Key) (atOpen : List ℕ) (offset : LayoutOffset) (dataLength : ℕ
   -- If the packet rule accepts a finish, all bytes have come.
   finish-whole : (came : List ℕ) → finishRule k atOpen (offset .0) dataLength came ≡ Done → length came ≤ streamLength (k .signature .wire) dataLength
       → length came ≡ streamLength (k .signature .wire) dataLength
-  finish-whole came e h = go (ltb (length came) (streamLength (k .signature .wire) dataLength)) refl e
-    where
-      go : (b : Bool) → ltb (length came) (streamLength (k .signature .wire) dataLength) ≡ b → refuse b BytesToCome Done ≡ Done → length came ≡ streamLength (k .signature .wire) dataLength
-      go false x z = omega (arith, h, ltb-false (length came) (streamLength (k .signature .wire) dataLength) x)
-      go true x z = let c : _≡_ {A = ℕ} 0 1 = cc in absurd (omega arith)
+  finish-whole came e h =
+      let w = streamLength (k .signature .wire) dataLength in
+      omega (arith, h, ltb-false (length came) w (refuse-done (ltb (length came) w) BytesToCome Done e .0))
 
   module _ (came : List ℕ) (b : Bytes came) (h : length came ≤ streamLength (k .signature .wire) dataLength) where
     from-calls : SessionFromCalls (at came)
@@ -339,19 +335,20 @@ becomes-same : (o : Outcome) (xs : List ℕ) → becomes o xs xs ≡ xs
 becomes-same Done xs = refl
 becomes-same (Refused r) xs = refl
 
-one-more : {a b : Call} {more more′ : List Call} → a ≡ b → more ≡ more′ → (a ∷ more) ≡ (b ∷ more′)
-one-more e f = rw (e, f) refl
-
 -- What the calls of a list asked for leads to that list.
 pub made-played : EveryMadeListIsPlayed
 unfolding played
 made-played s now calls Made.stops = refl
 made-played s now calls (Made.accepted bytes answer after {calls = more} b ea em eo rest) =
-    rw (becomes-same (packetAnswer s (length now) (length bytes)) now, ← ea, ← em, eo) (one-more refl (made-played (answer .session) after more rest))
+    let next : played (answer .session) (becomes (answer .outcome) now after) (map requestOf more) ≡ more = rw eo (made-played (answer .session) after more rest) in
+    rw (becomes-same (packetAnswer s (length now) (length bytes)) now, ← ea, ← em) (ap (λ (l : List Call). packet now bytes answer after ∷ l) next)
 made-played s now calls (Made.refused lent bytes answer after r {calls = more} ea em eo rest) =
     let e : packetAnswer s (length lent) (length bytes) ≡ Refused r = sym (packet-result-outcome s (length lent) bytes) ∙ (ap (λ (p : PacketResult). p .outcome) (sym ea) ∙ eo) in
-    rw (e, ← ea, ← em, eo) (one-more refl (made-played (answer .session) now more rest))
-made-played s now calls (Made.early answer r {calls = more} ea eo rest) = rw (← ea, eo) (one-more refl (made-played (answer .session) now more rest))
+    let next : played (answer .session) (becomes (answer .outcome) now after) (map requestOf more) ≡ more = rw eo (made-played (answer .session) now more rest) in
+    rw (e, ← ea, ← em) (ap (λ (l : List Call). packet lent bytes answer after ∷ l) next)
+made-played s now calls (Made.early answer r {calls = more} ea eo rest) =
+    let next : unlessDone (answer .outcome) (played (answer .session) now (map requestOf more)) ≡ more = rw eo (made-played (answer .session) now more rest) in
+    rw (← ea) (ap (λ (l : List Call). finish answer ∷ l) next)
 made-played s now calls (Made.finished answer ea eo) = rw (← ea, eo) refl
 made-played s now calls (Made.abandoned answer ea) = rw ea refl
 
