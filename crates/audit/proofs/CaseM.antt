@@ -6,7 +6,7 @@ use Prim.Native.Nat.{ℕ, zero, suc}
 use native.Mathlib.Omega.{arith}
 use lib.Dec.{ltb}
 use borrow.Author.Tests.{ltb-true}
-use Rattle.guard.specs.Crc.{timesX, crcByte}
+use Rattle.crc.specs.Crc.{timesX, crcByte}
 use Rattle.guard.specs.Guards.{Bytes, stepped, guardValue}
 use Rattle.field.specs.Domains.{referenceTag}
 use Rattle.field.specs.Fields.{bytesOf, fieldOf, computedField}

@@ -1,6 +1,6 @@
 -- This law proves cases A to L by computing both sides.
 use mathlib.Core.Path.{refl}
-use Rattle.guard.specs.Crc.{timesX, crcByte, crc}
+use Rattle.crc.specs.Crc.{timesX, crcByte, crc}
 use Rattle.guard.specs.Checksum.{_⊕_, words, onesSum}
 use Rattle.guard.specs.Guards.{guardOf}
 use Rattle.field.specs.Domains.{referenceTag}

@@ -1,4 +1,3 @@
-pub mod Crc
 pub mod Checksum
 pub mod Guards
 pub mod Inner

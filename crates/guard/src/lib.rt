@@ -1,6 +1,5 @@
 // The CRC and checksum guards of a block's data, computed as the data arrives (01, "The protection field").
 mod checksum;
-mod crc;
 
 ghost use mathlib.Core.Path.{_≡_};
 ghost use Prim.Native.Nat.{_≤_};

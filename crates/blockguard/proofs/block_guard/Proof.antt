@@ -8,14 +8,18 @@ use lib.ListN.{length, take, drop, length-take, length-drop, take-append-drop}
 use borrow.Rule.Slice.PartAt.{part-to-end}
 use borrow.Author.Needs.{needs}
 use Rattle.guard.specs.declared.RunningGuard.{RunningGuard}
-use Rattle.guard.specs.Guards.{started, advanced, guardOf, guardValue}
+use Rattle.guard.specs.Guards.{Bytes, started, advanced, guardValue}
 use Rattle.guard.proofs.Laws.{advanced-append, whole-block}
 use Rattle.blockguard.proofs.block_guard.Statement.{statement}
 use Rattle.blockguard.proofs.block_guard.Tie as tie
 
 -- Advancing over the first n bytes and then over the rest is advancing over all.
-after-part : (t : ℕ) (g : RunningGuard) (rest : List ℕ) (n : ℕ) → advanced t (advanced t g (take n rest)) (drop n rest) ≡ advanced t g rest
-after-part t g rest n = sym (advanced-append t g (take n rest) (drop n rest)) ∙ ap (advanced t g) (take-append-drop n rest)
+after-part : (t : ℕ) (g g′ : RunningGuard) (rest : List ℕ) (n : ℕ) → g′ ≡ advanced t g (take n rest)
+    → advanced t g′ (drop n rest) ≡ advanced t g rest
+after-part t g g′ rest n e =
+    ap (λ (h : RunningGuard). advanced t h (drop n rest)) e
+    ∙ sym (advanced-append t g (take n rest) (drop n rest))
+    ∙ ap (advanced t g) (take-append-drop n rest)
 
 -- After the last byte the guard stays as it is.
 at-end : (t : ℕ) (g : RunningGuard) (rest : List ℕ) → length rest ≤ 0 → advanced t g rest ≡ g
@@ -24,7 +28,8 @@ at-end t g [] h = refl
 at-end t g (b ∷ rest) h = absurd (omega arith)
 
 abbrev Inv-loop : tie.InvT-loop
-Inv-loop guard-type seed block g₀ rest₀ g rest = advanced guard-type g rest ≡ advanced guard-type (started seed) block
+Inv-loop guard-type seed block g₀ rest₀ g rest =
+    advanced guard-type g rest ≡ advanced guard-type (started seed) block
 
 abbrev μ-loop : tie.MeasureT-loop
 μ-loop guard-type seed block g₀ rest₀ g rest = length rest
@@ -49,7 +54,8 @@ part-advance-end c = omega (arith, c .min .ensures)
 
 advance-requires : tie.Need-advance-requires Inv-loop μ-loop
 advance-requires c κs =
-    rw (length-take (c .before .min .result - 0) (c .before .before .before .loop .rest .now)) (omega (arith, c .before .min .ensures))
+    let l = c .before .before .before in
+    rw (length-take (c .before .min .result - 0) (l .loop .rest .now)) (omega (arith, c .before .min .ensures))
 
 sub-rest : tie.Need-sub-rest Inv-loop μ-loop
 sub-rest c = omega (arith, c .before .before .min .ensures)
@@ -70,22 +76,24 @@ loop-less c =
 loop-again : tie.Need-loop-again Inv-loop μ-loop
 loop-again c =
     let l = c .before .before .before .before .before in
-    let t = l .before .before .before .args .guard-type in
     let n = c .before .before .before .min in
     let e = rw (sub-zero (n .result)) at (c .before .advance .ensures) in
     rw (part-to-end (l .loop .rest .now) (n .result))
-    (ap (λ (g : RunningGuard). advanced t g (drop (n .result) (l .loop .rest .now))) e ∙ after-part t (l .loop .g) (l .loop .rest .now) (n .result) ∙ l .loop .inv)
+    (after-part _ (l .loop .g) (c .before .advance .result) (l .loop .rest .now) (n .result) e ∙ l .loop .inv)
 
 value-requires : tie.Need-value-requires Inv-loop μ-loop
 value-requires c κs = search needs
 
 returns : tie.Need-returns Inv-loop μ-loop
 returns c =
-    let a = c .before .before .before .before .before .args in
+    let s = c .before .before .before .before in
+    let a = s .before .args in
     let l = c .before .before .loop in
+    let e = at-end (a .guard-type) (l .g) (l .rest .now) (c .before .loop-test .left) in
+    let bytes : Bytes (a .block .now) = λ i. s .shared-slice-known .given i .fits in
     c .value .ensures
-    ∙ ap (guardValue (a .guard-type)) (sym (at-end (a .guard-type) (l .g) (l .rest .now) (c .before .loop-test .left)) ∙ l .inv)
-    ∙ whole-block (a .guard-type) (a .seed) (a .block .now) (search needs) (λ i. c .before .before .before .before .shared-slice-known .given i .fits)
+    ∙ ap (guardValue (a .guard-type)) (sym e ∙ l .inv)
+    ∙ whole-block (a .guard-type) (a .seed) (a .block .now) (search needs) bytes
 
 pub block-guard-spec : {M : Type 1} → statement M
 block-guard-spec =

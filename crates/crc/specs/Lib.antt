@@ -1,0 +1,3 @@
+pub mod Crc
+pub mod Division
+pub mod Inner
