@@ -1,5 +1,6 @@
 /* Garoalva's benchmark: bench [--quick]. Prints Markdown. */
 #include "contest.h"
+#include "isal.h"
 #include "peers.h"
 #include "tables.h"
 #include <stdio.h>
@@ -24,7 +25,9 @@ static void print_conditions(struct effort effort) {
            effort.placements, effort.few_placements, effort.seconds_each * 1e3);
     if (effort.quick)
         printf("- A quick run: fewer figures, and rough ones.\n");
-    if (ISAL_MISSING)
+    if (isal.installed)
+        printf("- After each call of ISA-L vzeroupper is executed. docs/LINKING.md says why.\n");
+    else
         printf("- ISA-L is not installed, and its columns are empty. On Debian: apt-get install libisal-dev\n");
 }
 

@@ -1,4 +1,5 @@
 #include "contest.h"
+#include "isal.h"
 #include "ours.h"
 #include "peers.h"
 #include <stdlib.h>
@@ -39,12 +40,12 @@ static bool takes_part(enum contender c, const struct scene *s, enum direction d
     case LOOP_GUARD:
         return direction == RECEIVE && signing != PLAIN && contiguous;
     case ISAL_GUARD:
-        return !ISAL_MISSING && direction == RECEIVE && crc && contiguous;
+        return isal.installed && direction == RECEIVE && crc && contiguous;
     case LOOP:
         return signing != PLAIN;
     case ISAL:
     case ISAL_COPY:
-        return !ISAL_MISSING && crc;
+        return isal.installed && crc;
     default:
         return true;
     }

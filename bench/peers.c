@@ -1,10 +1,8 @@
 #include "peers.h"
 #include "by_value.h"
+#include "isal.h"
 #include "ours.h"
 #include <string.h>
-#ifdef HAVE_ISAL
-#include <isa-l/crc.h>
-#endif
 
 typedef uint16_t (*guard_of)(uint16_t seed, const uint8_t *data, size_t length);
 /* Copies a block and returns its guard. */
@@ -130,36 +128,19 @@ void run_loop(struct scene *s, enum direction direction) {
     }
 }
 
-#ifdef HAVE_ISAL
 static uint16_t copy_with_isal(uint16_t seed, uint8_t *to, const uint8_t *from, size_t length) {
     memcpy(to, from, length);
-    return crc16_t10dif(seed, from, length);
+    return isal.crc(seed, from, length);
 }
-
-static uint16_t isal_crc(uint16_t seed, const uint8_t *data, size_t length) { return crc16_t10dif(seed, data, length); }
 
 void run_isal_guard(struct scene *s, enum direction direction) {
     (void)direction;
-    check_guards(s, isal_crc);
-}
-
-static uint16_t copy_by_isal(uint16_t seed, uint8_t *to, const uint8_t *from, size_t length) {
-    return crc16_t10dif_copy(seed, to, (uint8_t *)from, length);
+    check_guards(s, isal.crc);
 }
 
 void run_isal(struct scene *s, enum direction direction) { move_blocks(s, direction, copy_with_isal); }
 
-void run_isal_copy(struct scene *s, enum direction direction) { move_blocks(s, direction, copy_by_isal); }
-#else
-void run_isal(struct scene *s, enum direction direction) {
-    (void)direction;
-    fail("built without ISA-L", s);
-}
-
-void run_isal_copy(struct scene *s, enum direction direction) { run_isal(s, direction); }
-
-void run_isal_guard(struct scene *s, enum direction direction) { run_isal(s, direction); }
-#endif
+void run_isal_copy(struct scene *s, enum direction direction) { move_blocks(s, direction, isal.copy); }
 
 void run_memcpy(struct scene *s, enum direction direction) {
     bool plain = s->shape.signing == PLAIN;

@@ -4,12 +4,6 @@
 
 #include "scene.h"
 
-#ifdef HAVE_ISAL
-#define ISAL_MISSING false
-#else
-#define ISAL_MISSING true
-#endif
-
 /* Must be called before all other functions here. */
 void make_crc_table(void);
 
@@ -23,7 +17,7 @@ void run_loop_guard(struct scene *s, enum direction direction);
 void run_isal_guard(struct scene *s, enum direction direction);
 /* Runs a guard loop in plain C, then memcpy. The loop is a table CRC, or the checksum byte by byte. */
 void run_loop(struct scene *s, enum direction direction);
-/* Run ISA-L's crc16_t10dif, then memcpy; and its crc16_t10dif_copy. Neither is for checksums. */
+/* Run ISA-L's crc16_t10dif, then memcpy; and its crc16_t10dif_copy. Both need ISA-L, and neither is for checksums. */
 void run_isal(struct scene *s, enum direction direction);
 void run_isal_copy(struct scene *s, enum direction direction);
 /* Receives packets by a call that tests nothing, for unsigned scenes of one piece: the least cost of a call by value.

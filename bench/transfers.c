@@ -1,6 +1,6 @@
 /* The library's transfers, compared with the peers. */
+#include "isal.h"
 #include "ours.h"
-#include "peers.h"
 #include "tables.h"
 #include <stdio.h>
 
@@ -55,7 +55,7 @@ static void keep_ratios(const struct scene *s, enum direction direction, struct 
     }
     if (crc)
         keep_lowest(&f->crc_to_loop, t.seconds[LOOP] / ours, where);
-    if (crc && !ISAL_MISSING)
+    if (crc && isal.installed)
         keep_lowest(&f->crc_to_isal_copy, t.seconds[ISAL_COPY] / ours, where);
     if (direction == RECEIVE)
         keep_highest(&f->packets_to_call[signing], packets / ours, place(s, "packets", packets));
