@@ -3,6 +3,7 @@
 #define CONTEST_H
 
 #include "scene.h"
+#include "timing.h"
 
 enum contender {
     OURS,
@@ -24,27 +25,9 @@ struct times {
     double seconds[CONTENDERS];
 };
 
-/*
- * Where structs lie on the stack changes the speed of a call, of ours by up to a factor of two, and is chance in a
- * program. So each contender is measured with the stack at several places of a page, and its figure is the mean.
- */
-enum { MOST_PLACEMENTS = 16 };
-
-/* How much time is spent on a measurement. */
-struct effort {
-    int rounds;            /* at least */
-    double seconds_each;   /* at least */
-    size_t placements;     /* of the stack */
-    size_t few_placements; /* for runs so long that the guards or the memory take all their time */
-    bool quick;            /* some figures are left out */
-};
-
-/* Returns the processor time of this thread in seconds. Other programs on the machine don't count. */
-double processor_time(void);
-
 /* Ends the program unless all contenders that take part write the same bytes and find a damaged block. */
 void verify(struct scene *s, enum direction direction);
-/* Returns the time of each contender: the fastest run at each placement of the stack, and the mean of these. */
+/* Returns the time of each contender, as measure_jobs measures it. */
 struct times measure(struct scene *s, enum direction direction, struct effort effort);
 /* Returns the time of one run of one contender, with the stack as it is. */
 double timed_run(enum contender c, struct scene *s, enum direction direction);
