@@ -1,6 +1,6 @@
 # make            builds build/libgaroalva.a and build/libgaroalva.so; it proves the crate capi, so rt must be on the path
 # make test       tests the header, both libraries as installed, the C API, that a library with other structs does not
-#                 link, the Rust crate, the model, and the library against the model
+#                 link, the guard of a block by itself, the Rust crate, the model, and the library against the model
 # make bench      runs bench/run; QUICK=--quick for a short run
 # make install    PREFIX=/usr/local DESTDIR=
 # make clean
@@ -26,10 +26,11 @@ CRATE := --offline --locked --manifest-path rust/Cargo.toml
 PKG_CONFIG := PKG_CONFIG_PATH=$(STAGE)/lib/pkgconfig pkg-config
 WITH_SHARED := $$($(PKG_CONFIG) --cflags --libs garoalva)
 WITH_STATIC := $$($(PKG_CONFIG) --cflags garoalva) $$($(PKG_CONFIG) --variable=archive garoalva)
+WITH_ISAL := $$(pkg-config --exists libisal && echo -DHAVE_ISAL $$(pkg-config --cflags --libs libisal))
 
 PROVED := $(wildcard crates.txt) $(shell test -d crates && find crates -name '*.rt' -o -name '*.antt')
 
-.PHONY: all test test-header test-c test-versions test-rust test-reference bench install clean
+.PHONY: all test test-header test-c test-versions test-guard test-rust test-reference bench install clean
 .DELETE_ON_ERROR:
 
 all: build/libgaroalva.a build/libgaroalva.so
@@ -42,6 +43,12 @@ build/libcapi.a: $(PROVED) | build
 	@echo 'proving the crate capi and what it rests on: some minutes the first time'
 	rt staticlib capi > build/prove.log || { cat build/prove.log; exit 1; }
 	cp target/staticlib/libcapi.a $@
+
+# The guard of a block by itself, for test-guard and the benchmark. It is not part of the library. It waits for libcapi.a
+# because two rt at once would write the same files in target/.
+build/libblockguard.a: $(PROVED) | build/libcapi.a
+	rt staticlib blockguard > build/prove-guard.log || { cat build/prove-guard.log; exit 1; }
+	cp target/staticlib/libblockguard.a $@
 
 # The part in plain C: texts and version.
 build/text.o: c/text.c include/garoalva.h Makefile | build
@@ -67,7 +74,7 @@ build/libgaroalva.so: build/$(SHARED)
 	ln -sf $(SHARED) build/$(SONAME)
 	ln -sf $(SONAME) $@
 
-test: test-header test-c test-versions test-rust test-reference
+test: test-header test-c test-versions test-guard test-rust test-reference
 	tests/run
 
 # A field that is too narrow can leave all sizes and offsets as asserted, but then padding follows it: -Wpadded.
@@ -93,6 +100,11 @@ test-c: all
 # A library with other structs must not link.
 test-versions: all
 	CC='$(CC)' AR='$(AR)' NM='$(NM)' tests/versions/run $(STRUCT_VERSION)
+
+# The guard of a block by itself, compared with ISA-L's CRC too if pkg-config finds ISA-L.
+test-guard: build/libblockguard.a
+	$(COMPILE) -Iinclude tests/guard/main.c -o build/test-guard $< $(WITH_ISAL)
+	build/test-guard
 
 test-rust: build/libgaroalva.a
 	$(CARGO) test $(CRATE)
