@@ -1,10 +1,10 @@
 #include "scene.h"
+#include "buffers.h"
 #include "peers.h"
 #include <stdio.h>
 #include <stdlib.h>
-#include <string.h>
 
-enum { GAP = 64, PAGE = 4096 };
+enum { GAP = 64 };
 
 const char *const signing_names[SIGNINGS] = {"plain", "CRC seed 0", "CRC seed FFFF", "checksum",
                                              "both signed, copying"};
@@ -25,16 +25,6 @@ uint8_t *block_in_memory(const struct scene *s, size_t index) {
 }
 
 uint8_t *block_on_wire(const struct scene *s, size_t index) { return s->wire + index * s->wire_unit; }
-
-static uint8_t *buffer(size_t length) {
-    uint8_t *bytes = aligned_alloc(PAGE, (length + PAGE - 1) / PAGE * PAGE);
-    if (bytes == NULL) {
-        fputs("bench: out of memory\n", stderr);
-        exit(EXIT_FAILURE);
-    }
-    memset(bytes, 0, length);
-    return bytes;
-}
 
 static garoalva_domain domain(const struct scene *s, bool is_signed) {
     return (garoalva_domain){
@@ -75,13 +65,10 @@ static garoalva_key key(const struct scene *s) {
 }
 
 static void fill_memory(struct scene *s) {
-    uint32_t x = 1;
+    uint32_t pattern = 1;
     for (size_t i = 0; i < s->shape.blocks; i++) {
         uint8_t *block = block_in_memory(s, i);
-        for (size_t j = 0; j < s->shape.block; j++) {
-            x = x * 1103515245u + 12345u;
-            block[j] = (uint8_t)(x >> 16);
-        }
+        pattern = fill_pattern(pattern, block, s->shape.block);
         if (s->shape.signing == COPYING)
             put_field(block + s->shape.block, table_crc(0, block, s->shape.block), i);
     }
@@ -96,9 +83,9 @@ struct scene make_scene(struct shape shape) {
     s.memory_length = shape.pieces * s.stride;
     s.wire_length = shape.blocks * s.wire_unit;
     s.data_length = shape.blocks * shape.block;
-    s.memory = buffer(s.memory_length);
-    s.wire = buffer(s.wire_length);
-    s.spare = buffer(s.memory_length > s.wire_length ? s.memory_length : s.wire_length);
+    s.memory = make_buffer(s.memory_length);
+    s.wire = make_buffer(s.wire_length);
+    s.spare = make_buffer(s.memory_length > s.wire_length ? s.memory_length : s.wire_length);
     s.key = key(&s);
     fill_memory(&s);
     run_loop(&s, SEND);

@@ -1,4 +1,5 @@
 /* The library's transfers, compared with the peers. */
+#include "cells.h"
 #include "isal.h"
 #include "ours.h"
 #include "tables.h"
@@ -7,22 +8,6 @@
 enum { MANY_PIECES = 64 };
 
 static const char *const direction_names[] = {"send", "receive"};
-
-static double megabytes_per_second(size_t data_length, double seconds) { return (double)data_length / seconds * 1e-6; }
-
-static void print_speed(size_t data_length, double seconds) {
-    if (seconds > 0)
-        printf(" %8.0f |", megabytes_per_second(data_length, seconds));
-    else
-        printf(" %8s |", "-");
-}
-
-static void print_ratio(double peer, double ours) {
-    if (peer > 0)
-        printf(" %7.3f |", peer / ours);
-    else
-        printf(" %7s |", "-");
-}
 
 static void print_row(const struct scene *s, const char *name, struct times t, enum contender us) {
     printf("| %-7s | %-20s | %6zu |", name, signing_names[s->shape.signing], s->shape.pieces);
@@ -133,13 +118,6 @@ void print_guards(const struct receives *r, struct findings *f) {
                         where);
         }
     }
-}
-
-static void print_cell(double value, int digits) {
-    if (value > 0)
-        printf(" %8.*f |", digits, value);
-    else
-        printf(" %8s |", "-");
 }
 
 void print_calls(struct effort effort, struct findings *f) {
