@@ -114,7 +114,7 @@ test-rust: build/libgaroalva.a
 test-reference: build/libgaroalva.a
 	$(CARGO) test --quiet --offline --manifest-path tests/reference/Cargo.toml --features live
 
-bench: build/libgaroalva.a
+bench: build/libgaroalva.a build/libblockguard.a
 	bench/run $(QUICK)
 
 install: all

@@ -21,7 +21,8 @@ static void print_conditions(struct effort effort) {
            "- Times are processor time of this thread. Contenders take turns, after a first run that isn't timed.\n"
            "- A figure is the mean over %zu placements of the stack within a page (%zu for runs above a millisecond)\n"
            "  of the best run at each, for at least %.0f ms in all.\n"
-           "- Before transfers are timed, everyone's output is compared, and who checks must notice a damaged block.\n",
+           "- Before transfers and guards are timed, everyone's output is compared. Who checks must notice a damaged\n"
+           "  block.\n",
            effort.placements, effort.few_placements, effort.seconds_each * 1e3);
     if (effort.quick)
         printf("- A quick run: fewer figures, and rough ones.\n");
@@ -36,11 +37,10 @@ int main(int count, char **arguments) {
     struct effort quick = {1, 0.002, MOST_PLACEMENTS / 2, 1, true};
     struct effort effort = quick_asked(count, arguments) ? quick : thorough;
     struct findings f = {0};
-    struct receives r = {0};
     make_crc_table();
     print_conditions(effort);
-    print_transfers(effort, &f, &r);
-    print_guards(&r, &f);
+    print_transfers(effort, &f);
+    print_guards(effort, &f);
     print_calls(effort, &f);
     print_plain_pieces(effort, &f);
     print_lengths(effort, &f);

@@ -7,14 +7,13 @@
 
 typedef void (*run)(struct scene *s, enum direction direction);
 
-static const run runs[CONTENDERS] = {
-    [OURS] = run_ours,       [PACKETS] = run_packets,       [EMPTY] = run_empty,           [UNTESTED] = run_untested,
-    [BY_HAND] = run_by_hand, [LOOP_GUARD] = run_loop_guard, [ISAL_GUARD] = run_isal_guard, [LOOP] = run_loop,
-    [ISAL] = run_isal,       [ISAL_COPY] = run_isal_copy,   [MEMCPY] = run_memcpy};
+static const run runs[CONTENDERS] = {[OURS] = run_ours,         [PACKETS] = run_packets,     [EMPTY] = run_empty,
+                                     [UNTESTED] = run_untested, [BY_HAND] = run_by_hand,     [LOOP] = run_loop,
+                                     [ISAL] = run_isal,         [ISAL_COPY] = run_isal_copy, [MEMCPY] = run_memcpy};
 
 static bool takes_part(enum contender c, const struct scene *s, enum direction direction) {
     enum signing signing = s->shape.signing;
-    bool crc = signing != PLAIN && signing != CHECKSUM, contiguous = s->shape.pieces == 1;
+    bool crc = signing != PLAIN && signing != CHECKSUM;
     switch (c) {
     case PACKETS:
         return direction == RECEIVE;
@@ -22,11 +21,7 @@ static bool takes_part(enum contender c, const struct scene *s, enum direction d
     case BY_HAND:
         return direction == RECEIVE && signing == PLAIN;
     case UNTESTED:
-        return direction == RECEIVE && signing == PLAIN && contiguous;
-    case LOOP_GUARD:
-        return direction == RECEIVE && signing != PLAIN && contiguous;
-    case ISAL_GUARD:
-        return isal.installed && direction == RECEIVE && crc && contiguous;
+        return direction == RECEIVE && signing == PLAIN && s->shape.pieces == 1;
     case LOOP:
         return signing != PLAIN;
     case ISAL:
@@ -48,8 +43,6 @@ static bool found_bad(enum contender c, struct scene *s, enum direction directio
     bool ours = c == OURS || c == PACKETS;
     return ours ? found_error(s) : s->bad_blocks != 0;
 }
-
-static bool moves_bytes(enum contender c) { return c != LOOP_GUARD && c != ISAL_GUARD; }
 
 static void verify_bytes(enum contender c, struct scene *s, enum direction direction, const uint8_t *right) {
     uint8_t *target = direction == SEND ? s->wire : s->memory;
@@ -81,8 +74,7 @@ void verify(struct scene *s, enum direction direction) {
     for (enum contender c = OURS; c < MEMCPY; c++) {
         if (!takes_part(c, s, direction) || c == EMPTY)
             continue;
-        if (moves_bytes(c))
-            verify_bytes(c, s, direction, right);
+        verify_bytes(c, s, direction, right);
         if (checks(s, direction))
             verify_damage(c, s, direction);
     }

@@ -5,20 +5,7 @@
 #include "scene.h"
 #include "timing.h"
 
-enum contender {
-    OURS,
-    PACKETS,
-    EMPTY,
-    UNTESTED,
-    BY_HAND,
-    LOOP_GUARD,
-    ISAL_GUARD,
-    LOOP,
-    ISAL,
-    ISAL_COPY,
-    MEMCPY,
-    CONTENDERS
-};
+enum contender { OURS, PACKETS, EMPTY, UNTESTED, BY_HAND, LOOP, ISAL, ISAL_COPY, MEMCPY, CONTENDERS };
 
 /* The seconds that a run takes; 0 for a contender that doesn't take part. */
 struct times {

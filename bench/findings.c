@@ -2,6 +2,7 @@
 #include <stdio.h>
 
 const size_t block_sizes[BLOCK_SIZES] = {512, 520, 4096, 4160};
+const size_t guard_sizes[GUARD_SIZES] = {512, 520, 1496, 4096, 4160};
 const size_t plain_counts[PLAIN_COUNTS] = {1, 4, 16, 64, 256, 1024};
 
 /* A cost that grows by at most this factor is called flat. */
@@ -59,7 +60,7 @@ void print_verdicts(const struct findings *f) {
     print_at_least("Unsigned transfers at 0.5 of memcpy or better at pieces of 4,096 bytes, so many of them: ",
                    f->plain_to_memcpy, plain_counts, PLAIN_COUNTS, 0.5);
     print_at_least("Checksum guard by itself faster than a byte-wise C loop, blocks of ", f->checksum_guard_to_loop,
-                   block_sizes, BLOCK_SIZES, 1);
+                   guard_sizes, GUARD_SIZES, 1);
     print_at_least("Send and receive with checksums faster than that loop with memcpy, blocks of ", f->checksum_to_loop,
                    block_sizes, BLOCK_SIZES, 1);
     print_at_most("Packets of 1,500 bytes within 1.3 of the one-call time: ", f->packets_to_call, 1.3);

@@ -4,9 +4,10 @@
 
 #include "scene.h"
 
-enum { BLOCK_SIZES = 4, PLAIN_COUNTS = 6 };
+enum { BLOCK_SIZES = 4, GUARD_SIZES = 5, PLAIN_COUNTS = 6 };
 
-extern const size_t block_sizes[BLOCK_SIZES];
+/* The block sizes of transfers, and those at which guards are measured by themselves. */
+extern const size_t block_sizes[BLOCK_SIZES], guard_sizes[GUARD_SIZES];
 /* The numbers of pieces of 4,096 bytes at which unsigned transfers are compared with memcpy. */
 extern const size_t plain_counts[PLAIN_COUNTS];
 
@@ -22,7 +23,7 @@ struct findings {
     struct finding call_growth[SIGNINGS];   /* the same, with all lengths over the same memory */
     struct finding plain_to_memcpy[PLAIN_COUNTS];
     struct finding checksum_to_loop[BLOCK_SIZES];       /* guard and copy */
-    struct finding checksum_guard_to_loop[BLOCK_SIZES]; /* the guard by itself */
+    struct finding checksum_guard_to_loop[GUARD_SIZES]; /* the guard by itself */
     struct finding packets_to_call[SIGNINGS];           /* time of packets to that of one call */
     struct finding later_packets[SIGNINGS]; /* cost per packet, of the dearest tenth of a session to its first */
     struct finding untested_to_call;        /* time of plain packets by a C call that tests nothing, to one call */

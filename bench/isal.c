@@ -12,6 +12,12 @@ static void clear_upper_parts(void) {
         __asm__ volatile("vzeroupper");
 }
 
+static uint16_t base(uint16_t seed, const uint8_t *block, size_t length) {
+    uint16_t found = crc16_t10dif_base(seed, (uint8_t *)block, length);
+    clear_upper_parts();
+    return found;
+}
+
 static uint16_t crc(uint16_t seed, const uint8_t *block, size_t length) {
     uint16_t found = crc16_t10dif(seed, block, length);
     clear_upper_parts();
@@ -24,7 +30,7 @@ static uint16_t copy(uint16_t seed, uint8_t *to, const uint8_t *block, size_t le
     return found;
 }
 
-const struct isal isal = {.installed = true, .crc = crc, .copy = copy};
+const struct isal isal = {.installed = true, .base = base, .crc = crc, .copy = copy};
 #else
 const struct isal isal = {.installed = false};
 #endif

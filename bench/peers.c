@@ -4,7 +4,6 @@
 #include "ours.h"
 #include <string.h>
 
-typedef uint16_t (*guard_of)(uint16_t seed, const uint8_t *data, size_t length);
 /* Copies a block and returns its guard. */
 typedef uint16_t (*guarded_copy)(uint16_t seed, uint8_t *to, const uint8_t *from, size_t length);
 
@@ -26,7 +25,7 @@ uint16_t table_crc(uint16_t seed, const uint8_t *data, size_t length) {
     return crc;
 }
 
-static uint16_t byte_checksum(uint16_t seed, const uint8_t *data, size_t length) {
+uint16_t byte_checksum(uint16_t seed, const uint8_t *data, size_t length) {
     uint32_t sum = seed;
     for (size_t i = 0; i < length; i += 2)
         sum += (uint32_t)(data[i] << 8 | data[i + 1]);
@@ -103,18 +102,6 @@ static void move_blocks(struct scene *s, enum direction direction, guarded_copy 
     }
 }
 
-static void check_guards(struct scene *s, guard_of guard) {
-    for (size_t i = 0; i < s->shape.blocks; i++) {
-        const uint8_t *block = block_on_wire(s, i), *field = block + s->shape.block;
-        s->bad_blocks += guard(scene_seed(s), block, s->shape.block) != (field[0] << 8 | field[1]);
-    }
-}
-
-void run_loop_guard(struct scene *s, enum direction direction) {
-    (void)direction;
-    check_guards(s, s->shape.signing == CHECKSUM ? byte_checksum : table_crc);
-}
-
 void run_loop(struct scene *s, enum direction direction) {
     switch (s->shape.signing) {
     case PLAIN:
@@ -131,11 +118,6 @@ void run_loop(struct scene *s, enum direction direction) {
 static uint16_t copy_with_isal(uint16_t seed, uint8_t *to, const uint8_t *from, size_t length) {
     memcpy(to, from, length);
     return isal.crc(seed, from, length);
-}
-
-void run_isal_guard(struct scene *s, enum direction direction) {
-    (void)direction;
-    check_guards(s, isal.crc);
 }
 
 void run_isal(struct scene *s, enum direction direction) { move_blocks(s, direction, copy_with_isal); }

@@ -7,16 +7,10 @@
 
 enum { KIB = 1024, MIB = 1024 * 1024 };
 
-/* The times of contiguous receives. */
-struct receives {
-    size_t data_length[BLOCK_SIZES];
-    struct times times[BLOCK_SIZES][SIGNINGS];
-};
-
 /* Prints every signing, direction, block size and layout, with the peers. */
-void print_transfers(struct effort effort, struct findings *f, struct receives *r);
-/* Prints the guards by themselves, computed from these times. */
-void print_guards(const struct receives *r, struct findings *f);
+void print_transfers(struct effort effort, struct findings *f);
+/* Prints the guards of blocks by themselves, with the peers. */
+void print_guards(struct effort effort, struct findings *f);
 /* Prints what a packet costs whatever its length, with a call that tests nothing and with one written by hand. */
 void print_calls(struct effort effort, struct findings *f);
 /* Prints unsigned transfers over pieces of 4,096 bytes. */

@@ -46,27 +46,21 @@ static void keep_ratios(const struct scene *s, enum direction direction, struct 
         keep_highest(&f->packets_to_call[signing], packets / ours, place(s, "packets", packets));
 }
 
-/* Prints the rows of a scene, and returns the times of its receive. */
-static struct times print_scene(struct shape shape, struct effort effort, struct findings *f) {
+static void print_scene(struct shape shape, struct effort effort, struct findings *f) {
     struct scene s = make_scene(shape);
-    struct times received = {{0}};
     for (enum direction direction = SEND; direction <= RECEIVE; direction++) {
         verify(&s, direction);
         struct times t = measure(&s, direction, effort);
         print_row(&s, direction_names[direction], t, OURS);
-        if (direction == RECEIVE) {
+        if (direction == RECEIVE)
             print_row(&s, "packets", t, PACKETS);
-            received = t;
-        }
         keep_ratios(&s, direction, t, f);
     }
     free_scene(&s);
     fflush(stdout);
-    return received;
 }
 
-static size_t print_block_size(size_t block, struct effort effort, struct findings *f,
-                               struct times received[SIGNINGS]) {
+static void print_block_size(size_t block, struct effort effort, struct findings *f) {
     size_t data = effort.quick ? 300000 : 1200000;
     size_t blocks = data / block / MANY_PIECES * MANY_PIECES;
     printf("\n### Blocks of %zu bytes, %zu of them\n\n"
@@ -75,13 +69,12 @@ static size_t print_block_size(size_t block, struct effort effort, struct findin
            "|---|---|---:|---:|---:|---:|---:|---:|---:|---:|---:|---:|---:|\n",
            block, blocks);
     for (enum signing signing = PLAIN; signing < SIGNINGS; signing++) {
-        received[signing] = print_scene((struct shape){signing, block, blocks, 1}, effort, f);
+        print_scene((struct shape){signing, block, blocks, 1}, effort, f);
         print_scene((struct shape){signing, block, blocks, MANY_PIECES}, effort, f);
     }
-    return block * blocks;
 }
 
-void print_transfers(struct effort effort, struct findings *f, struct receives *r) {
+void print_transfers(struct effort effort, struct findings *f) {
     printf(
         "\n## Transfers, in MB of data per second\n\n"
         "Each row is the whole job: guard, copy and field for each block. C loop: a table CRC or a byte-wise\n"
@@ -90,34 +83,7 @@ void print_transfers(struct effort effort, struct findings *f, struct receives *
         "to that of one receive.\n",
         PACKET);
     for (size_t i = 0; i < BLOCK_SIZES; i++)
-        r->data_length[i] = print_block_size(block_sizes[i], effort, f, r->times[i]);
-}
-
-void print_guards(const struct receives *r, struct findings *f) {
-    static const enum signing guards[] = {CRC_ZERO, CRC_ONES, CHECKSUM};
-    printf("\n## Guards by themselves, in MB of data per second\n\n"
-           "Ours is in no call by itself: it is what a contiguous receive takes more than a plain one, so the fields' "
-           "own\n"
-           "cost is in it. C loop and ISA-L: the guard of each block of the wire, and its comparison.\n\n"
-           "| guard         | block |     ours |   C loop |    ISA-L |  / loop | / ISA-L |\n"
-           "|---|---:|---:|---:|---:|---:|---:|\n");
-    for (size_t i = 0; i < sizeof guards / sizeof *guards; i++) {
-        for (size_t j = 0; j < BLOCK_SIZES; j++) {
-            const struct times *t = &r->times[j][guards[i]];
-            double ours = t->seconds[OURS] - r->times[j][PLAIN].seconds[OURS], loop = t->seconds[LOOP_GUARD];
-            printf("| %-13s | %5zu |", signing_names[guards[i]], block_sizes[j]);
-            print_speed(r->data_length[j], ours);
-            print_speed(r->data_length[j], loop);
-            print_speed(r->data_length[j], t->seconds[ISAL_GUARD]);
-            print_ratio(loop, ours);
-            print_ratio(t->seconds[ISAL_GUARD], ours);
-            puts("");
-            char where[48];
-            snprintf(where, sizeof where, "blocks of %zu", block_sizes[j]);
-            keep_lowest(guards[i] == CHECKSUM ? &f->checksum_guard_to_loop[j] : &f->crc_guard_to_loop, loop / ours,
-                        where);
-        }
-    }
+        print_block_size(block_sizes[i], effort, f);
 }
 
 void print_calls(struct effort effort, struct findings *f) {
