@@ -26,7 +26,7 @@ void keep_lowest(struct finding *f, double value, const char *where) {
 
 static void print_verdict(const char *claim, const char *of, const struct finding *f, bool holds) {
     if (f->seen)
-        printf("| %s%s | %.2f (%s) | %s |\n", claim, of, f->value, f->where, holds ? "holds" : "**does not hold**");
+        printf("| %s%s | %.3f (%s) | %s |\n", claim, of, f->value, f->where, holds ? "holds" : "**does not hold**");
 }
 
 static void print_at_most(const char *claim, const struct finding per_signing[SIGNINGS], double limit) {
@@ -63,12 +63,13 @@ void print_verdicts(const struct findings *f) {
                    guard_sizes, GUARD_SIZES, 1);
     print_at_least("Send and receive with checksums faster than that loop with memcpy, blocks of ", f->checksum_to_loop,
                    block_sizes, BLOCK_SIZES, 1);
+    print_at_least("Send and receive with CRC at 0.95 of the table loop with memcpy or better, blocks of ",
+                   f->crc_to_loop, block_sizes, BLOCK_SIZES, 0.95);
     print_at_most("Packets of 1,500 bytes within 1.3 of the one-call time: ", f->packets_to_call, 1.3);
     print_at_most("No growth with the number of packets before: ", f->later_packets, flat);
     print_reported("Plain packets of 1,500 bytes in C, by value, nothing tested, to the one-call time",
                    &f->untested_to_call);
     print_reported("Plain packets of 1,500 bytes by hand in C, to the one-call time", &f->by_hand_to_call);
     print_reported("CRC guard by itself, next to the table loop", &f->crc_guard_to_loop);
-    print_reported("Send and receive with CRC, next to the table loop with memcpy", &f->crc_to_loop);
     print_reported("Send and receive with CRC, next to ISA-L's crc16_t10dif_copy", &f->crc_to_isal_copy);
 }

@@ -22,13 +22,12 @@ struct findings {
     struct finding length_growth[SIGNINGS]; /* cost per byte, of the dearest length to the shortest */
     struct finding call_growth[SIGNINGS];   /* the same, with all lengths over the same memory */
     struct finding plain_to_memcpy[PLAIN_COUNTS];
-    struct finding checksum_to_loop[BLOCK_SIZES];       /* guard and copy */
-    struct finding checksum_guard_to_loop[GUARD_SIZES]; /* the guard by itself */
-    struct finding packets_to_call[SIGNINGS];           /* time of packets to that of one call */
+    struct finding crc_to_loop[BLOCK_SIZES], checksum_to_loop[BLOCK_SIZES]; /* guard and copy */
+    struct finding checksum_guard_to_loop[GUARD_SIZES];                     /* the guard by itself */
+    struct finding packets_to_call[SIGNINGS];                               /* time of packets to that of one call */
     struct finding later_packets[SIGNINGS]; /* cost per packet, of the dearest tenth of a session to its first */
     struct finding untested_to_call;        /* time of plain packets by a C call that tests nothing, to one call */
     struct finding by_hand_to_call;         /* time of plain packets by a C call written by hand, to one call */
-    struct finding crc_to_loop;             /* guard and copy */
     struct finding crc_guard_to_loop;
     struct finding crc_to_isal_copy;
 };

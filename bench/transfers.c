@@ -34,12 +34,11 @@ static void keep_ratios(const struct scene *s, enum direction direction, struct 
     const char *where = place(s, direction_names[direction], ours);
     enum signing signing = s->shape.signing;
     bool crc = signing != PLAIN && signing != CHECKSUM;
+    struct finding *to_loop = crc ? f->crc_to_loop : f->checksum_to_loop;
     for (size_t i = 0; i < BLOCK_SIZES; i++) {
-        if (signing == CHECKSUM && s->shape.block == block_sizes[i])
-            keep_lowest(&f->checksum_to_loop[i], t.seconds[LOOP] / ours, where);
+        if (signing != PLAIN && s->shape.block == block_sizes[i])
+            keep_lowest(&to_loop[i], t.seconds[LOOP] / ours, where);
     }
-    if (crc)
-        keep_lowest(&f->crc_to_loop, t.seconds[LOOP] / ours, where);
     if (crc && isal.installed)
         keep_lowest(&f->crc_to_isal_copy, t.seconds[ISAL_COPY] / ours, where);
     if (direction == RECEIVE)
