@@ -180,10 +180,10 @@ void print_guards(struct effort effort, struct findings *f) {
     printf(
         "\n## Guards by themselves, in MB of data per second\n\n"
         "Guards of blocks with seed %d, and nothing else. In cache: one block again and again. 64 MiB: as many blocks\n"
-        "as fit into that, one after the other. Ours is the library's code, called without a transfer; its first\n"
-        "column has the ns for a block. C loop: a table CRC or a byte-wise checksum. base: ISA-L's crc16_t10dif_base,\n"
-        "a table CRC. ISA-L: its crc16_t10dif. ISA-L cp: its crc16_t10dif_copy, which also copies the block. Then our\n"
-        "speed as a ratio to each.\n",
+        "as fit into that, one after the other. Ours is the library's code, called without a transfer. It begins a\n"
+        "cache line, and its first column has the ns for a block. C loop: a table CRC or a byte-wise checksum. base:\n"
+        "ISA-L's crc16_t10dif_base, a table CRC. ISA-L: its crc16_t10dif. ISA-L cp: its crc16_t10dif_copy, which also\n"
+        "copies the block. Then our speed as a ratio to each.\n",
         SEED);
     print_table(&crc, from, to, effort, f);
     print_table(&checksum, from, to, effort, f);
