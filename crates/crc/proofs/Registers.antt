@@ -11,7 +11,7 @@ use lib.Seq.{drop-cons}
 use lib.Bits.{bitXor, xor-block, xor-comm, xor-lt, xor-zero-r}
 use native.Mathlib.Decide.{decLt}
 use Rattle.crc.specs.Crc.{polynomial, timesX, crcByte, crc}
-use Rattle.crc.specs.Division.{generator, Remainder, followed, dividend, CrcIsRemainder}
+use Rattle.crc.specs.Division.{generator, Remainder, followed, dividend, CrcOfData, CrcIsRemainder}
 use Rattle.crc.specs.Inner.Remainders.{reduce, rem, Same}
 use Rattle.crc.proofs.Xor.{xor-assoc, xor-scale, mul-swap}
 use Rattle.crc.proofs.Remainders.{reduce-small, rem-lt, rem-small, rem-double, shifted}
@@ -105,8 +105,7 @@ pub crc-is-remainder : CrcIsRemainder
 crc-is-remainder r bs hr h =
     subst (Remainder (dividend r bs)) (sym (crc-rem r bs hr h)) (rem-is-remainder (dividend r bs))
 
--- From register 0 on it is SBC-3's sentence as it stands: the remainder of the data times x^16.
-pub crc-of-data : (bs : List ℕ) → ((i : ℕ) → getD bs i 0 < 256) → Remainder (followed 8 0 bs * 2 ^ 16) (crc 0 bs)
+pub crc-of-data : CrcOfData
 unfolding dividend
 crc-of-data bs h =
     subst (λ (n : ℕ). Remainder (bitXor n (followed 8 0 bs * 2 ^ 16)) (crc 0 bs)) (zero-mul (2 ^ (8 * length bs)))

@@ -9,7 +9,8 @@
 --   OneRemainder               no number has two remainders
 --   followed k before pieces   the polynomial `before`, followed by pieces of k bits
 --   dividend register bytes    the polynomial that the CRC divides
---   CrcIsRemainder             the statement
+--   CrcOfData                  SBC-3's sentence: the CRC is the remainder of the data times x^16
+--   CrcIsRemainder             the same for every register before the first byte
 use mathlib.Core.Path.{_≡_}
 use mathlib.Core.List.{List, [], _∷_}
 use Prim.Native.Nat.{ℕ, _*_, _^_, _<_}
@@ -40,12 +41,16 @@ unfoldable pub followed : (k before : ℕ) (pieces : List ℕ) → ℕ
 followed k before [] = before
 followed k before (piece ∷ pieces) = followed k (bitXor piece (before * 2 ^ k)) pieces
 
--- SBC-3 divides the data times x^16. A register that is not 0 is added to the data's first 16 bits; if the data is
--- shorter, to the zeros after it too.
+-- SBC-3's sentence. The register is 0 before the first byte.
+abbrev pub CrcOfData : Type 0
+CrcOfData = (bytes : List ℕ) → ((i : ℕ) → getD bytes i 0 < 256)
+    → Remainder (followed 8 0 bytes * 2 ^ 16) (crc 0 bytes)
+
+-- A register that is not 0 before the first byte is added to the first 16 bits of the data times x^16.
 unfoldable pub dividend : (register : ℕ) (bytes : List ℕ) → ℕ
 dividend register bytes = bitXor (register * 2 ^ (8 * length bytes)) (followed 8 0 bytes * 2 ^ 16)
 
--- The register after some bytes is the remainder, for every 16-bit register and all bytes.
+-- The register after some bytes is the remainder, for every 16-bit register before them.
 abbrev pub CrcIsRemainder : Type 0
 CrcIsRemainder = (register : ℕ) (bytes : List ℕ) → register < 2 ^ 16 → ((i : ℕ) → getD bytes i 0 < 256)
     → Remainder (dividend register bytes) (crc register bytes)
