@@ -7,6 +7,7 @@
 #include "tables.h"
 #include <stdio.h>
 #include <stdlib.h>
+#include <string.h>
 
 /* In cache, a run computes the guard of the same block this many times. */
 enum { SEED = 0, CALLS = 64, STREAM = 64 * MIB };
@@ -95,17 +96,29 @@ static uint16_t guard_at(guard_call call, const struct blocks *b, size_t index) 
 /* Returns how many columns are measured. Without ISA-L its columns, which are the last ones, stay empty. */
 static size_t measured(const struct guard *g) { return isal.installed ? g->columns : CHECKSUM_COLUMNS; }
 
+static _Noreturn void fail_at(const char *what, const struct blocks *b) {
+    fprintf(stderr, "bench: %s: blocks of %zu bytes, %s\n", what, b->length, b->where);
+    exit(EXIT_FAILURE);
+}
+
 /* Ends the program unless all implementations return the same guard for each block. */
 static void verify_guards(const struct guard *g, const struct blocks *b) {
     for (size_t i = 0; i < b->count; i++) {
         uint16_t ours = guard_at(g->calls[OUR_GUARD], b, i);
         for (size_t j = LOOP_GUARD; j < measured(g); j++) {
-            if (guard_at(g->calls[j], b, i) != ours) {
-                fprintf(stderr, "bench: two guards of a block of %zu bytes differ\n", b->length);
-                exit(EXIT_FAILURE);
-            }
+            if (guard_at(g->calls[j], b, i) != ours)
+                fail_at("two guards of a block differ", b);
         }
     }
+}
+
+/* Does the same, and ends the program unless the implementation that copies has copied all blocks. */
+static void verify_guards_and_copy(const struct guard *g, const struct blocks *b) {
+    size_t extent = (b->count - 1) * b->stride + b->length;
+    memset(b->to, 0, extent);
+    verify_guards(g, b);
+    if (measured(g) > ISAL_CRC_COPY && memcmp(b->to, b->from, extent) != 0)
+        fail_at("a block was not copied", b);
 }
 
 /* The guards of these blocks, computed by one implementation. */
@@ -156,7 +169,7 @@ static void keep_guard(const struct blocks *b, const double seconds[CRC_COLUMNS]
 
 static void print_blocks(const struct guard *g, const struct blocks *b, struct effort effort, struct finding *f) {
     double seconds[CRC_COLUMNS];
-    verify_guards(g, b);
+    verify_guards_and_copy(g, b);
     measure_guards(g, b, effort, seconds);
     print_row(g, b, seconds);
     keep_guard(b, seconds, f);
@@ -180,10 +193,10 @@ void print_guards(struct effort effort, struct findings *f) {
     printf(
         "\n## Guards by themselves, in MB of data per second\n\n"
         "Guards of blocks with seed %d, and nothing else. In cache: one block again and again. 64 MiB: as many blocks\n"
-        "as fit into that, one after the other. Ours is the library's code, called without a transfer. It begins a\n"
-        "cache line, and its first column has the ns for a block. C loop: a table CRC or a byte-wise checksum. base:\n"
-        "ISA-L's crc16_t10dif_base, a table CRC. ISA-L: its crc16_t10dif. ISA-L cp: its crc16_t10dif_copy, which also\n"
-        "copies the block. Then our speed as a ratio to each.\n",
+        "as fit into that, one after the other. Ours is the library's code, compiled without a transfer around it.\n"
+        "Its first column has the ns for a block. C loop: a table CRC or a byte-wise checksum. These functions begin\n"
+        "a cache line. base: ISA-L's crc16_t10dif_base, a table CRC. ISA-L: its crc16_t10dif. ISA-L cp: its\n"
+        "crc16_t10dif_copy, which also copies the block. Then our speed as a ratio to each.\n",
         SEED);
     print_table(&crc, from, to, effort, f);
     print_table(&checksum, from, to, effort, f);

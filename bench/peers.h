@@ -7,14 +7,14 @@
 /* Must be called before all other functions here. */
 void make_crc_table(void);
 
-/* Return the guard of a block: by a table CRC, and by a checksum of two bytes at a time, of an even number of bytes. */
+/* Return the guard of a block: a CRC by a table, and a checksum of an even number of bytes, read one by one. */
 uint16_t table_crc(uint16_t seed, const uint8_t *data, size_t length);
 uint16_t byte_checksum(uint16_t seed, const uint8_t *data, size_t length);
 /* Write the field of the block with this index, and its reference tag alone. */
 void put_field(uint8_t *field, uint16_t guard, size_t index);
 void put_reference(uint8_t *field, size_t index);
 
-/* Runs a guard loop in plain C, then memcpy. The loop is a table CRC, or the checksum byte by byte. */
+/* Runs a guard loop in plain C, then memcpy. The loop is one of the two above. */
 void run_loop(struct scene *s, enum direction direction);
 /* Run ISA-L's crc16_t10dif, then memcpy; and its crc16_t10dif_copy. Both need ISA-L, and neither is for checksums. */
 void run_isal(struct scene *s, enum direction direction);
