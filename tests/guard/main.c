@@ -91,7 +91,8 @@ static const uint8_t rfc1071[8] = {0x00, 0x01, 0xF2, 0x03, 0xF4, 0xF5, 0xF6, 0xF
 static const uint8_t one_to_four[8] = {0, 1, 0, 2, 0, 3, 0, 4};
 static const uint8_t carry[8] = {0xFF, 0xFF, 0, 1};
 
-/* SBC-3's blocks of 32 bytes, RFC 1071's example, the scope paper's cases E, F and G, and no byte at all. */
+/* SBC-3's blocks of 32 bytes, one of them with seed FFFF too; RFC 1071's example; the scope paper's cases E, F and G;
+ * no byte at all. */
 static const struct {
     const char *name;
     uint32_t guard_type;
