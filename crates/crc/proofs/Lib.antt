@@ -4,3 +4,8 @@ pub mod Quotients
 pub mod Pieces
 pub mod Registers
 pub mod Entries
+pub mod Folding
+pub mod Reading
+pub mod Carrying
+pub mod Overlaying
+pub mod Windowing

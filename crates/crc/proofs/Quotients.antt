@@ -1,12 +1,12 @@
 -- `rem` finds the remainder that `Remainder` defines, and there is no other.
 use mathlib.Core.Path.{_≡_, refl, sym, ap, ap₂, _∙_, subst}
 use Prim.Native.Nat.{ℕ, suc, _*_, _/_, _%_, _^_}
-use native.Mathlib.Nat.{zero-mul, mod-lt, zero-lt-suc, div-add-mod'}
+use native.Mathlib.Nat.{zero-mul}
 use lib.Arith.{bin-ind}
-use lib.Bits.{bitXor, xor-zero-r, xor-self, xor-shifted}
+use lib.Bits.{bitXor, xor-zero-r, xor-self}
 use Rattle.crc.specs.Division.{generator, Multiple, none, more, Remainder, OneRemainder}
 use Rattle.crc.specs.Inner.Remainders.{reduce, bringDown, remBits, rem}
-use Rattle.crc.proofs.Xor.{Bit, off, on, xor-lift, xor-swap, xor-cancel, xor-scale}
+use Rattle.crc.proofs.Xor.{Bit, off, on, xor-lift, xor-swap, xor-cancel, xor-scale, xor-parts}
 use Rattle.crc.proofs.Remainders.{top-bit, rem-step, bring-down-lt, rem-lt, rem-small, rem-xor}
 use Rattle.crc.proofs.Remainders.{shifted, same-shift}
 
@@ -29,8 +29,7 @@ rem-divides = bin-ind (λ (n : ℕ). Multiple (bitXor n (rem n))) none step
     -- The bit that is brought down is n's own, so only the bits above it are left of the sum.
     doubled : (n : ℕ) → bitXor n (down n) ≡ bitXor (n / 2) (rem (n / 2)) * 2
     doubled n =
-        ap (λ (x : ℕ). bitXor x (down n))
-        (sym (xor-shifted (n / 2) 1 (n % 2) (mod-lt n (zero-lt-suc 1)) ∙ div-add-mod' n 2))
+        ap (λ (x : ℕ). bitXor x (down n)) (sym (xor-parts 1 n))
         ∙ xor-swap (n / 2 * 2) (n % 2) (rem (n / 2) * 2) (n % 2)
         ∙ ap₂ bitXor (sym (xor-scale 1 (n / 2) (rem (n / 2)))) (xor-self (n % 2))
         ∙ xor-zero-r (bitXor (n / 2) (rem (n / 2)) * 2)

@@ -1,23 +1,25 @@
 -- The register of `Crc` is the remainder of `Division`.
 use mathlib.Core.Path.{_≡_, refl, sym, ap, ap₂, _∙_, subst}
 use mathlib.Core.List.{List, [], _∷_}
-use Prim.Native.Nat.{ℕ, suc, _+_, _-_, _*_, _/_, _^_, _≤_, _<_}
-use native.Mathlib.Nat.{mul-assoc, mul-one, zero-mul, zero-add}
+use Prim.Native.Nat.{ℕ, suc, _+_, _-_, _*_, _/_, _%_, _^_, _≤_, _<_}
+use lib.Pow.{pow-pos}
+use native.Mathlib.Nat.{mul-assoc, mul-one, zero-mul, zero-add, mod-lt}
 use native.Mathlib.Numerals.{add-one}
 use native.Mathlib.Omega.{arith}
 use borrow.Author.Tests.{lt-ltb, le-ltb}
-use lib.ListN.{length, getD, drop, drop-of-length-le}
+use lib.ListN.{length, getD, take, drop, length-drop, drop-of-length-le, take-append-drop}
 use lib.Seq.{drop-cons}
 use lib.Bits.{bitXor, xor-block, xor-comm, xor-lt, xor-zero-r}
 use native.Mathlib.Decide.{decLt}
 use Rattle.crc.specs.Crc.{polynomial, timesX, crcByte, crc}
 use Rattle.crc.specs.Division.{generator, Remainder, followed, dividend, CrcOfData, CrcIsRemainder}
-use Rattle.crc.specs.Inner.Remainders.{reduce, rem, Same}
-use Rattle.crc.proofs.Xor.{xor-assoc, xor-scale, mul-swap}
+use Rattle.crc.specs.Inner.Remainders.{reduce, remBits, rem, Same}
+use Rattle.crc.specs.Inner.Folding.{withRest, bytesAt, withRegister, crcOf}
+use Rattle.crc.proofs.Xor.{xor-assoc, xor-scale, xor-parts, mul-swap, shift-shift}
 use Rattle.crc.proofs.Remainders.{reduce-small, rem-lt, rem-small, rem-double, shifted}
-use Rattle.crc.proofs.Remainders.{same, back, same-rem, same-xor, same-shift}
+use Rattle.crc.proofs.Remainders.{same, back, then, same-rem, same-xor, same-right, same-shift}
 use Rattle.crc.proofs.Quotients.{rem-is-remainder}
-use Rattle.crc.proofs.Pieces.{shift-piece, followed-from}
+use Rattle.crc.proofs.Pieces.{shift-piece, followed-plus, followed-from, followed-first, followed-append}
 
 -- ---- one bit
 
@@ -71,7 +73,8 @@ dividend-nil r = xor-zero-r (r * 1) ∙ mul-one r
 dividend-cons : (r b : ℕ) (bs : List ℕ) → dividend r (b ∷ bs) ≡ dividend (bitXor (b * 256) r * 256) bs
 unfolding dividend followed
 dividend-cons r b bs =
-    ap₂ bitXor (shift-piece 8 r (length bs)) (ap (λ (x : ℕ). x * 65536) first ∙ xor-scale 16 (b * 2 ^ m) rest)
+    ap₂ bitXor (shift-piece 8 r (length bs))
+    (ap (λ (x : ℕ). x * 65536) (followed-first 8 b bs) ∙ xor-scale 16 (b * 2 ^ m) rest)
     ∙ sym (xor-assoc (r * 256 * 2 ^ m) (b * 2 ^ m * 65536) (rest * 65536))
     ∙ ap (λ (x : ℕ). bitXor x (rest * 65536))
     (xor-comm (r * 256 * 2 ^ m) (b * 2 ^ m * 65536)
@@ -84,9 +87,6 @@ dividend-cons r b bs =
 
     rest : ℕ
     rest = followed 8 0 bs
-
-    first : followed 8 (bitXor b 0) bs ≡ bitXor (b * 2 ^ m) rest
-    first = ap (λ (x : ℕ). followed 8 x bs) (xor-zero-r b) ∙ followed-from 8 b bs
 
 dividend-same : {r s : ℕ} (bs : List ℕ) → Same r s → Same (dividend r bs) (dividend s bs)
 unfolding dividend
@@ -110,6 +110,99 @@ unfolding dividend
 crc-of-data bs h =
     subst (λ (n : ℕ). Remainder (bitXor n (followed 8 0 bs * 2 ^ 16)) (crc 0 bs)) (zero-mul (2 ^ (8 * length bs)))
     (crc-is-remainder 0 bs (omega arith) h)
+
+-- ---- registers of polynomials
+
+pub crc-of-same : {a b : ℕ} → Same a b → crcOf a ≡ crcOf b
+crc-of-same s = same-shift 16 s .eq
+
+crc-of-nil : crcOf 0 ≡ 0
+unfolding rem remBits
+crc-of-nil = refl
+
+-- The lowest byte of a polynomial enters last.
+crc-of-last : (n : ℕ) → crcByte (crcOf (n / 256)) (n % 256) ≡ crcOf n
+crc-of-last n =
+    crc-byte (crcOf a) b (rem-lt (a * 65536)) (mod-lt n (pow-pos 8))
+    ∙ ap rem (xor-scale 8 (b * 256) (crcOf a) ∙ ap (λ (x : ℕ). bitXor x (crcOf a * 256)) (mul-assoc b 256 256))
+    ∙ then (same-right (b * 65536) (same-shift 8 (back (same-rem (a * 65536))))) (same whole) .eq
+  where
+    a : ℕ
+    a = n / 256
+
+    b : ℕ
+    b = n % 256
+
+    whole : bitXor (b * 65536) (a * 65536 * 256) ≡ n * 65536
+    whole =
+        xor-comm (b * 65536) (a * 65536 * 256)
+        ∙ ap (λ (x : ℕ). bitXor x (b * 65536)) (mul-swap a 65536 256)
+        ∙ sym (xor-scale 16 (a * 256) b)
+        ∙ ap (λ (x : ℕ). x * 65536) (xor-parts 8 n)
+
+-- Five bytes of a polynomial, entered one after the other.
+pub crc-of-five : (n p q r s t : ℕ) → n < 2 ^ 40 → p ≡ crcByte 0 (n / 256 / 256 / 256 / 256)
+    → q ≡ crcByte p (n / 256 / 256 / 256 % 256) → r ≡ crcByte q (n / 256 / 256 % 256) → s ≡ crcByte r (n / 256 % 256)
+    → t ≡ crcByte s (n % 256) → t ≡ crcOf n
+crc-of-five n p q r s t h hp hq hr hs ht =
+    rw (ht, hs, hr, hq, hp, first, crc-of-last c, crc-of-last b, crc-of-last a, crc-of-last n)
+  where
+    a : ℕ
+    a = n / 256
+
+    b : ℕ
+    b = a / 256
+
+    c : ℕ
+    c = b / 256
+
+    first : crcByte 0 (c / 256) ≡ crcOf (c / 256)
+    first =
+        let top : c / 256 / 256 ≡ 0 = omega arith in
+        let low : c / 256 % 256 ≡ c / 256 = omega arith in
+        ap₂ crcByte (sym (ap crcOf top ∙ crc-of-nil)) (sym low) ∙ crc-of-last (c / 256)
+
+dividend-of : (n : ℕ) (bs : List ℕ) → dividend (n * 2 ^ 16) bs ≡ followed 8 n bs * 2 ^ 16
+unfolding dividend
+dividend-of n bs =
+    ap (λ (x : ℕ). bitXor x (followed 8 0 bs * 2 ^ 16)) (mul-swap n (2 ^ 16) (2 ^ (8 * length bs)))
+    ∙ sym (xor-scale 16 (n * 2 ^ (8 * length bs)) (followed 8 0 bs))
+    ∙ ap (λ (x : ℕ). x * 2 ^ 16) (sym (followed-from 8 n bs))
+
+-- Bytes that enter the register of a polynomial follow that polynomial.
+pub crc-of-followed : (r n : ℕ) (bs : List ℕ) → ((i : ℕ) → getD bs i 0 < 256) → r ≡ crcOf n
+    → crc r bs ≡ crcOf (followed 8 n bs)
+crc-of-followed r n bs h e =
+    crc-rem r bs (subst (λ (x : ℕ). x < 65536) (sym e) (rem-lt (n * 2 ^ 16))) h
+    ∙ dividend-same bs (then (same e) (back (same-rem (n * 2 ^ 16)))) .eq
+    ∙ ap rem (dividend-of n bs)
+
+-- A register before the first byte is added to the first two of k bytes.
+pub crc-of-register : (k r : ℕ) (s : List ℕ) → 2 ≤ k → k ≤ length s → r < 65536 → ((i : ℕ) → getD s i 0 < 256)
+    → crcOf (withRest (withRegister r k s) s k) ≡ crc r s
+unfolding dividend
+crc-of-register k r s l h hr hs =
+    ap rem
+    (ap (λ (x : ℕ). x * 2 ^ 16) (followed-plus 8 (bytesAt s 0 k) (r * 2 ^ (8 * k - 16)) (drop k s))
+    ∙ xor-scale 16 (followed 8 (bytesAt s 0 k) (drop k s)) (r * 2 ^ (8 * k - 16) * 2 ^ m)
+    ∙ ap₂ (λ (x y : ℕ). bitXor (x * 2 ^ 16) y) all head
+    ∙ xor-comm (followed 8 0 s * 2 ^ 16) (r * 2 ^ (8 * length s)))
+    ∙ sym (crc-rem r s hr hs)
+  where
+    m : ℕ
+    m = 8 * length (drop k s)
+
+    all : followed 8 (bytesAt s 0 k) (drop k s) ≡ followed 8 0 s
+    all = sym (followed-append 8 0 (take k s) (drop k s)) ∙ ap (followed 8 0) (take-append-drop k s)
+
+    bits : 8 * k - 16 + m + 16 ≡ 8 * length s
+    bits = let g : length (drop k s) ≡ length s - k = length-drop k s in omega arith
+
+    head : r * 2 ^ (8 * k - 16) * 2 ^ m * 2 ^ 16 ≡ r * 2 ^ (8 * length s)
+    head =
+        ap (λ (x : ℕ). x * 2 ^ 16) (shift-shift r (8 * k - 16) m)
+        ∙ shift-shift r (8 * k - 16 + m) 16
+        ∙ ap (λ (n : ℕ). r * 2 ^ n) bits
 
 -- ---- byte by byte
 

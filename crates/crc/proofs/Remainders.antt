@@ -1,14 +1,14 @@
 -- The remainder is linear, is below x^16, and goes with multiplication by x^k.
 use mathlib.Core.Path.{_≡_, refl, sym, ap, ap₂, _∙_, subst}
 use Prim.Native.Nat.{ℕ, zero, suc, _*_, _/_, _%_, _^_, _≤_, _<_}
-use native.Mathlib.Nat.{not-suc-le-zero, le-refl, mod-lt, zero-lt-suc, mul-assoc, mul-one, pow-suc, div-add-mod'}
+use native.Mathlib.Nat.{not-suc-le-zero, le-refl, mul-assoc, mul-one, pow-suc}
 use native.Mathlib.Decide.{le-ind}
 use native.Mathlib.Omega.{arith}
 use lib.Arith.{bin-ind, half-le}
-use lib.Bits.{bitXor, xor-zero-r, xor-shifted, xor-shr, xor-mod, xor-lt}
+use lib.Bits.{bitXor, xor-zero-r, xor-shr, xor-mod, xor-lt}
 use Rattle.crc.specs.Division.{generator}
 use Rattle.crc.specs.Inner.Remainders.{reduce, bringDown, remBits, rem, Same}
-use Rattle.crc.proofs.Xor.{Bit, off, on, bit-below, xor-swap, xor-scale}
+use Rattle.crc.proofs.Xor.{Bit, off, on, bit-below, xor-swap, xor-scale, xor-parts}
 
 -- ---- one step of the division
 
@@ -85,9 +85,7 @@ rem-small =
     (λ n ih h.
     rem-step n
     ∙ ap reduce
-    (ap (λ (r : ℕ). bringDown r n) (ih (omega arith))
-    ∙ xor-shifted (n / 2) 1 (n % 2) (mod-lt n (zero-lt-suc 1))
-    ∙ div-add-mod' n 2)
+    (ap (λ (r : ℕ). bringDown r n) (ih (omega arith)) ∙ xor-parts 1 n)
     ∙ reduce-small h)
 
 -- The remainder of a sum is the sum of the remainders.
@@ -127,12 +125,21 @@ same e = record { eq = ap rem e }
 pub back : {a b : ℕ} → Same a b → Same b a
 back s = record { eq = sym (s .eq) }
 
+pub then : {a b c : ℕ} → Same a b → Same b c → Same a c
+then s t = record { eq = s .eq ∙ t .eq }
+
 -- A number has the same remainder as its remainder.
 pub same-rem : (a : ℕ) → Same a (rem a)
 same-rem a = record { eq = sym (rem-small (rem a) (rem-lt a)) }
 
 pub same-xor : {a b c d : ℕ} → Same a c → Same b d → Same (bitXor a b) (bitXor c d)
 same-xor {a} {b} {c} {d} s t = record { eq = rem-xor a b ∙ ap₂ bitXor (s .eq) (t .eq) ∙ sym (rem-xor c d) }
+
+pub same-left : {a b : ℕ} (c : ℕ) → Same a b → Same (bitXor a c) (bitXor b c)
+same-left c s = same-xor {b = c} {d = c} s (same refl)
+
+pub same-right : {a b : ℕ} (c : ℕ) → Same a b → Same (bitXor c a) (bitXor c b)
+same-right c s = same-xor {a = c} {c = c} (same refl) s
 
 pub same-shift : {a b : ℕ} (k : ℕ) → Same a b → Same (a * 2 ^ k) (b * 2 ^ k)
 same-shift {a} {b} k s = record { eq = go k }

@@ -2,3 +2,7 @@
 -- these definitions, so an auditor may skip them.
 pub mod Remainders
 pub mod Tables
+pub mod Folding
+pub mod Carried
+pub mod Overlays
+pub mod Windows

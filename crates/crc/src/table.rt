@@ -1,4 +1,4 @@
-// The table of remainders. One test, where `register` lends it, compares every entry with its definition.
+// The table of remainders. The proof of `bytes::remainders` compares every entry with its definition.
 
 // The remainder of b x^16 divided by the generator, for each byte b.
 pub(crate) const TABLE: [u16; 256] = [

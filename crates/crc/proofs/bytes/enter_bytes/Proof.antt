@@ -1,11 +1,11 @@
 -- The loop keeps the invariant that entering the bytes left leads to the result.
-use Rattle.crc.proofs.Registers.{crc-more, crc-end}
 use mathlib.Core.Path.{_≡_, _∙_, sym, refl}
+use Prim.Native.Nat.{_≤_, _-_}
 use native.Mathlib.Omega.{arith}
 use borrow.Author.Needs.{needs}
-use Prim.Native.Nat.{_≤_, _-_}
 use lib.ListN.{length, drop}
 use Rattle.crc.specs.Crc.{crc}
+use Rattle.crc.proofs.Registers.{crc-more, crc-end}
 use Rattle.crc.proofs.bytes.enter_bytes.Statement.{statement}
 use Rattle.crc.proofs.bytes.enter_bytes.Tie as tie
 
