@@ -48,5 +48,6 @@ int main(int count, char **arguments) {
     print_pieces(effort);
     print_later_packets(effort, &f);
     print_verdicts(&f);
+    print_bars(&f);
     return EXIT_SUCCESS;
 }

@@ -151,7 +151,7 @@ static void measure_guards(const struct guard *g, const struct blocks *b, struct
 static void print_row(const struct guard *g, const struct blocks *b, const double seconds[CRC_COLUMNS]) {
     size_t data_length = b->count * b->length;
     printf("| %-8s | %5zu |", b->where, b->length);
-    print_cell(seconds[OUR_GUARD] / (double)b->count * 1e9, 0);
+    print_cell(seconds[OUR_GUARD] / (double)b->count * 1e9, 1);
     for (size_t i = OUR_GUARD; i < g->columns; i++)
         print_speed(data_length, seconds[i]);
     for (size_t i = LOOP_GUARD; i < g->columns; i++)
@@ -160,31 +160,60 @@ static void print_row(const struct guard *g, const struct blocks *b, const doubl
     fflush(stdout);
 }
 
-static void keep_guard(const struct blocks *b, const double seconds[CRC_COLUMNS], struct finding *f) {
-    char where[64];
-    snprintf(where, sizeof where, "blocks of %zu, %s, %.0f MB/s", b->length, b->where,
-             megabytes_per_second(b->count * b->length, seconds[OUR_GUARD]));
-    keep_lowest(f, seconds[LOOP_GUARD] / seconds[OUR_GUARD], where);
-}
-
-static void print_blocks(const struct guard *g, const struct blocks *b, struct effort effort, struct finding *f) {
-    double seconds[CRC_COLUMNS];
+static void print_blocks(const struct guard *g, const struct blocks *b, struct effort effort,
+                         double seconds[CRC_COLUMNS]) {
     verify_guards_and_copy(g, b);
     measure_guards(g, b, effort, seconds);
     print_row(g, b, seconds);
-    keep_guard(b, seconds, f);
+}
+
+static double our_speed(const struct blocks *b, const double seconds[CRC_COLUMNS]) {
+    return megabytes_per_second(b->count * b->length, seconds[OUR_GUARD]);
+}
+
+static double ratio_to(size_t column, const double seconds[CRC_COLUMNS]) {
+    return seconds[column] / seconds[OUR_GUARD];
+}
+
+/* Keeps the ratio to one of ISA-L's functions in cache, with the ratio over 64 MiB beside it. */
+static void keep_crc(enum comparison comparison, size_t column, const struct blocks *b,
+                     const double cached[CRC_COLUMNS], const double streamed[CRC_COLUMNS], struct findings *f) {
+    char where[64];
+    snprintf(where, sizeof where, "in cache, %.0f MB/s; 64 MiB: %.3f", our_speed(b, cached),
+             ratio_to(column, streamed));
+    keep_for_bar(f, comparison, b->length, ratio_to(column, cached), where);
+}
+
+static void keep_checksum(const struct blocks *b, const double seconds[CRC_COLUMNS], struct finding *f) {
+    char where[64];
+    snprintf(where, sizeof where, "blocks of %zu, %s, %.0f MB/s", b->length, b->where, our_speed(b, seconds));
+    keep_lowest(f, ratio_to(LOOP_GUARD, seconds), where);
+}
+
+/* Prints the rows of guard_sizes[size], and keeps their ratios. */
+static void print_size(const struct guard *g, size_t size, const uint8_t *from, uint8_t *to, struct effort effort,
+                       struct findings *f) {
+    size_t length = guard_sizes[size];
+    struct blocks cache = {"in cache", length, CALLS, 0, from, to};
+    struct blocks stream = {"64 MiB", length, STREAM / length, length, from, to};
+    double cached[CRC_COLUMNS], streamed[CRC_COLUMNS];
+    print_blocks(g, &cache, effort, cached);
+    print_blocks(g, &stream, effort, streamed);
+    if (g == &checksum) {
+        keep_checksum(&cache, cached, &f->checksum_guard_to_loop[size]);
+        keep_checksum(&stream, streamed, &f->checksum_guard_to_loop[size]);
+    } else if (isal.installed) {
+        keep_crc(GUARD_TO_BASE, ISAL_BASE, &cache, cached, streamed, f);
+        keep_crc(GUARD_TO_SIMD, ISAL_CRC, &cache, cached, streamed, f);
+    }
 }
 
 /* A quick run measures blocks of 512 and of 4,096 bytes alone. */
 static void print_table(const struct guard *g, const uint8_t *from, uint8_t *to, struct effort effort,
                         struct findings *f) {
     fputs(g->head, stdout);
-    for (size_t i = 0; i < GUARD_SIZES; i += effort.quick ? 3 : 1) {
-        size_t length = guard_sizes[i];
-        struct finding *found = g == &checksum ? &f->checksum_guard_to_loop[i] : &f->crc_guard_to_loop;
-        print_blocks(g, &(struct blocks){"in cache", length, CALLS, 0, from, to}, effort, found);
-        print_blocks(g, &(struct blocks){"64 MiB", length, STREAM / length, length, from, to}, effort, found);
-    }
+    for (size_t i = 0; i < GUARD_SIZES; i += effort.quick ? 3 : 1)
+        print_size(g, i, from, to, effort, f);
 }
 
 void print_guards(struct effort effort, struct findings *f) {

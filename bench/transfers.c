@@ -29,18 +29,25 @@ static const char *place(const struct scene *s, const char *name, double seconds
     return text;
 }
 
+static void keep_crc(const struct scene *s, enum direction direction, struct times t, struct findings *f) {
+    const double ours = t.seconds[OURS];
+    char where[80];
+    snprintf(where, sizeof where, "%s, %s, pieces: %zu, %.0f MB/s", direction_names[direction],
+             signing_names[s->shape.signing], s->shape.pieces, megabytes_per_second(s->data_length, ours));
+    keep_for_bar(f, TRANSFER_TO_LOOP, s->shape.block, t.seconds[LOOP] / ours, where);
+    if (isal.installed)
+        keep_for_bar(f, TRANSFER_TO_COPY, s->shape.block, t.seconds[ISAL_COPY] / ours, where);
+}
+
 static void keep_ratios(const struct scene *s, enum direction direction, struct times t, struct findings *f) {
     const double ours = t.seconds[OURS], packets = t.seconds[PACKETS];
-    const char *where = place(s, direction_names[direction], ours);
     enum signing signing = s->shape.signing;
-    bool crc = signing != PLAIN && signing != CHECKSUM;
-    struct finding *to_loop = crc ? f->crc_to_loop : f->checksum_to_loop;
     for (size_t i = 0; i < BLOCK_SIZES; i++) {
-        if (signing != PLAIN && s->shape.block == block_sizes[i])
-            keep_lowest(&to_loop[i], t.seconds[LOOP] / ours, where);
+        if (signing == CHECKSUM && s->shape.block == block_sizes[i])
+            keep_lowest(&f->checksum_to_loop[i], t.seconds[LOOP] / ours, place(s, direction_names[direction], ours));
     }
-    if (crc && isal.installed)
-        keep_lowest(&f->crc_to_isal_copy, t.seconds[ISAL_COPY] / ours, where);
+    if (signing != PLAIN && signing != CHECKSUM)
+        keep_crc(s, direction, t, f);
     if (direction == RECEIVE)
         keep_highest(&f->packets_to_call[signing], packets / ours, place(s, "packets", packets));
 }
