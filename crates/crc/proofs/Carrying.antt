@@ -64,6 +64,7 @@ word-entered s i j x w e h q p =
     then (followed-same 8 (drop j s) p)
     (same (ap (λ (v : ℕ). withRest (withWord x v) s j) q ∙ read-next s i 8 j x e h))
 
+-- Five words of 0 before a word add nothing.
 pub word-alone : (w : ℕ) → followed 64 0 (0 ∷ 0 ∷ 0 ∷ 0 ∷ 0 ∷ w ∷ []) ≡ w
 unfolding followed
 word-alone w = xor-zero-r w
@@ -116,10 +117,12 @@ fold-39 : (h : ℕ) → Same (h * 2 ^ 39) (times 15 (10 ∷ 7 ∷ 0 ∷ []) h)
 unfolding rem remBits reduce
 fold-39 h = fold 39 15 (10 ∷ 7 ∷ 0 ∷ []) refl h
 
+-- The bits from x^39 on are folded, and those below stay.
 pub word-shortened : (w h : ℕ) → h ≡ times 15 (10 ∷ 7 ∷ 0 ∷ []) (w / 2 ^ 39) → Same (bitXor h (w % 2 ^ 39)) w
 word-shortened w h e =
     then (same-left (w % 2 ^ 39) (then (same e) (back (fold-39 (w / 2 ^ 39))))) (same (xor-parts 39 w))
 
+-- What is left has 40 bits.
 pub shortened-lt : (h l : ℕ) {r : ℕ} → h < 2 ^ 25 → l < 2 ^ 39 → r ≡ times 15 (10 ∷ 7 ∷ 0 ∷ []) h → bitXor r l < 2 ^ 40
 shortened-lt h l p q e =
     rw e

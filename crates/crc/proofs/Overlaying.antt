@@ -31,6 +31,7 @@ rear-more : (s : List ℕ) (m j n : ℕ) → 243 + m ≡ j → m + 8 ≡ n → j
     → withWord (rear s m) (bytesAt s j 8) ≡ rear s n
 rear-more s m j n e f h = read-more s 243 m j 8 0 e h ∙ ap (rear s) f
 
+-- One word of each follows the sum.
 overlay-more : (s : List ℕ) (v j w a p q : ℕ) → j + 280 ≤ length s
     → w ≡ bytesAt s (j + 272) 8 → a ≡ bytesAt s (j + 19) 8 → p ≡ bytesAt s (j + 11) 8 → q ≡ bytesAt s (j + 3) 8
     → withWord (overlay s v j) (bitXor w (bitXor a (bitXor p q))) ≡ overlay s v (j + 8)
@@ -76,6 +77,7 @@ word-overlaid s v j o y u w a h g hw ha hu hy = record {
 
 -- ---- the first four words: the fronts begin in the second, the third and the fourth
 
+-- The words of `begin`, one after the other, are the sum before the loop.
 pub overlay-begun : (s : List ℕ) (v a b c d p q w₁ w₂ w₃ x y : ℕ) {z : ℕ} → 512 ≤ length s
     → a ≡ bytesAt s 243 5 → p ≡ bytesAt s 11 8 → q ≡ bytesAt s 3 8
     → w₁ ≡ bytesAt s 248 8 → w₂ ≡ bytesAt s 256 8 → w₃ ≡ bytesAt s 264 8
@@ -134,6 +136,7 @@ two-too-many e p q =
     ∙ xor-comm (bitXor (bitXor p (q * 2 ^ 64)) q) (bitXor (e * 2 ^ 128) (bitXor (e * 2 ^ 64) (e * 2 ^ 0)))
     ∙ ap (bitXor (bitXor (e * 2 ^ 128) (bitXor (e * 2 ^ 64) (e * 2 ^ 0)))) (xor-past p (q * 2 ^ 64) q)
 
+-- After the loop, without the two words too many, the sum may stand for the first 512 bytes.
 pub overlay-ended : (s : List ℕ) (v x y p q : ℕ) → 512 ≤ length s → Same x (overlay s v 240)
     → p ≡ bytesAt s 251 8 → q ≡ bytesAt s 243 8 → y ≡ bitXor x (withWord q (bitXor p q))
     → Same (withRest y s 512) (withRest v s 3)

@@ -42,6 +42,7 @@ read-more s i m j n a e h =
     ∙ followed-append 8 a (take m (drop i s)) (take n (drop j s))
     ∙ read-part s j n (followed 8 a (take m (drop i s))) h)
 
+-- One byte is itself.
 pub read-one : (s : List ℕ) (i : ℕ) → i < length s → getD s i 0 ≡ bytesAt s i 1
 unfolding followed
 read-one s i h = sym (ap (λ (l : List ℕ). followed 8 0 (take 1 l)) (drop-cons s i 0 h) ∙ xor-zero-r (getD s i 0))

@@ -124,6 +124,7 @@ all-entered o o₀ s i e h =
 
 -- ---- the window moves to the start
 
+-- One more byte of the window is at the start, and the bytes after it are as they were.
 pub byte-moved : (o o₀ : List ℕ) (i n : ℕ) → i < length o → n + i < length o₀ → take i o ≡ take i (drop n o₀)
     → drop i o ≡ drop i o₀
     → (take (i + 1) (set o i (getD o (i + n) 0)) ≡ take (i + 1) (drop n o₀))
@@ -191,6 +192,7 @@ take-zeros zero n h = refl
 take-zeros (suc m) zero h = absurd (omega arith)
 take-zeros (suc m) (suc n) h = ap (λ (l : List ℕ). 0 ∷ l) (take-zeros m n (omega arith))
 
+-- The first two bytes, with the register, at the end of an empty window are all that it stands for.
 pub first-entered : (o s : List ℕ) (r x y : ℕ) → 368 < length o → take 367 o ≡ replicate 367 0 → 2 ≤ length s
     → x ≡ bitXor (getD s 0 0) (r / 256) → y ≡ bitXor (getD s 1 0) (r % 256)
     → window (set (set o 367 x) 368 y) ≡ withRegister r 2 s
@@ -228,7 +230,7 @@ first-entered o s r x y h e k hx hy =
         ap₂ (λ (a b : ℕ). bitXor a (b * 2 ^ 8)) (read-one s 1 (omega arith)) (read-one s 0 (omega arith))
         ∙ read-more s 0 1 1 1 0 refl (omega arith)
 
--- ---- the window's bytes, once its first 31 are added to its last
+-- ---- the window's bytes, once its first 31 are added to its last 31
 
 -- A byte b is added at place k, and m bytes follow it.
 byte-added : (a b : ℕ) (l : List ℕ) (n k m : ℕ) → n ≡ k + 1 + m → n ≤ length l
@@ -244,6 +246,7 @@ byte-added a b (c ∷ l) (suc n) zero m e h =
     (length-take-le n l (omega arith) ∙ g)
 byte-added a b (c ∷ l) (suc n) (suc k) m e h = byte-added (bitXor c (a * 2 ^ 8)) b l n k m (omega arith) (omega arith)
 
+-- While the first 31 bytes are added to the last 31: none is added yet, one more is added, all are added.
 pub overlap-none : (o : List ℕ) → bytesAt o 0 369 ≡ bitXor (bytesAt o 0 369) (bytesAt o 0 0 * 2 ^ (8 * (31 - 0)))
 unfolding followed
 overlap-none o = sym (xor-zero-r (bytesAt o 0 369))

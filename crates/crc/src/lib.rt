@@ -15,7 +15,8 @@ ghost use Rattle.crc.specs.Inner.Folding.{withRegister};
 ghost use Rattle.crc.specs.Inner.Carried.{Heads};
 use six_words::SixWords;
 
-// Parts below this length are entered byte by byte. Folded, parts of 8 to 15 bytes took 6 to 10 ns longer.
+// Parts below this length are entered byte by byte. Folded, parts of 8 to 15 bytes took 6 to 10 ns longer on an Intel
+// Xeon.
 const SHORT: usize = 16;
 
 // Parts below this length are read word by word.

@@ -55,8 +55,8 @@ fn begin(v: u64, s: &[u8]) -> Overlaid
     }
 }
 
-// Adds the next three words of the rear and of each front. The compiler then moves fewer words between processor
-// registers: with one word at a time, 512 bytes take 76 ns in place of 65.
+// Adds the next three words of the rear and of each front. One at a time is slower: 512 bytes then take 76 ns in place
+// of 65 on an Intel Xeon.
 fn add_three(o: Overlaid, s: &[u8], j: usize) -> Overlaid
     requires { ⌜ j + 296 ≤ length (now s) ⌝ }
     ensures { λ r. ⌜ Extends (now (s .entry)) j 24 o r ⌝ }

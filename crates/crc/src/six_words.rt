@@ -91,8 +91,8 @@ pub(crate) fn finish(x: SixWords, s: &[u8]) -> u16
     finish_words(y, &s[i..])
 }
 
-// Appends the six words at i. After six steps each word is in the variable in which it began, so the compiler moves
-// none between processor registers.
+// Appends the six words at i. After six steps each word is in the variable in which it began. One at a time is slower:
+// 504 bytes then take 100 ns in place of 77 on an Intel Xeon.
 fn append_six(x: SixWords, s: &[u8], i: usize) -> SixWords
     requires { ⌜ i + 48 ≤ length (now s) ⌝ }
     ensures { λ r. ⌜ Same (withRest (value r) (now (s .entry)) (i + 48)) (withRest (value x) (now (s .entry)) i) ⌝ }

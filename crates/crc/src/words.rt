@@ -5,8 +5,8 @@ ghost use lib.Bits.{bitXor};
 ghost use lib.ListN.{length};
 ghost use Rattle.crc.specs.Inner.Folding.{bytesAt};
 
-// Returns the word at i. It is a function of its own because the compiler then finds one load and a byte swap. Written
-// out in a larger sum, the bytes stay eight loads.
+// Returns the word at i. It is a function of its own because the compiler then makes one load and a byte swap of it.
+// Where the register was added to the bytes of `load`, they stayed eight loads.
 pub(crate) fn word(s: &[u8], i: usize) -> u64
     requires { ⌜ i + 8 ≤ length (now s) ⌝ }
     ensures { λ w. ⌜ w ≡ bytesAt (now (s .entry)) i 8 ⌝ }
