@@ -3,6 +3,7 @@ pub mod Remainders
 pub mod Quotients
 pub mod Pieces
 pub mod Registers
+pub mod Bursts
 pub mod Entries
 pub mod Folding
 pub mod Reading
