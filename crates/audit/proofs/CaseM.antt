@@ -1,57 +1,26 @@
 -- These laws prove case M: its calls return 01's numbers, and its lists of calls can be made and follow the packet rule.
 use mathlib.Core.Path.{_≡_, refl}
-use mathlib.Core.Bool.{Bool, true, false, _&&_}
+use mathlib.Core.Bool.{Bool, true, _&&_}
 use mathlib.Core.List.{List, [], _∷_}
-use Prim.Native.Nat.{ℕ, zero, suc}
-use native.Mathlib.Omega.{arith}
-use lib.Dec.{ltb}
-use borrow.Author.Tests.{ltb-true}
-use Rattle.crc.specs.Crc.{timesX, crcByte}
-use Rattle.guard.specs.Guards.{Bytes, stepped, guardValue}
-use Rattle.field.specs.Domains.{referenceTag}
-use Rattle.field.specs.Fields.{bytesOf, fieldOf, computedField}
-use Rattle.field.specs.Judging.{escaped, checkedMask, differs, maskOf, differing, firstBad, judged}
-use Rattle.field.specs.Output.{agreed, copyMask, merged, outputField}
-use Rattle.layout.specs.Pieces.{repeats, numbersFrom, placesOf, size}
-use Rattle.layout.specs.Moves.{scattered}
-use Rattle.layout.specs.Answers.{someCountZero, malformed, someBeyond, sharesWith, someShare, verdictOn}
-use Rattle.key.specs.Configuring.{signatureAnswer, configureAnswer}
+use Prim.Native.Nat.{zero, suc}
+use Rattle.guard.specs.Guards.{stepped, guardValue}
 use Rattle.key.specs.declared.Outcome.the-variants.{Done}
 use Rattle.key.specs.Keys.{freshKey}
-use Rattle.key.specs.Admitting.{openAnswer}
 use Rattle.key.proofs.Laws.{came-fresh, came-configured}
-use Rattle.key.specs.Streams.{streamLength}
-use Rattle.engine.specs.Streams.{blockSize, fieldSize}
-use Rattle.engine.specs.Transfers.{slotOf, errorBy}
 use Rattle.engine.specs.Feeding.{checksGuard, makesGuard, arrived, errorDue, fieldMade, settled, fed, emitted}
 use Rattle.packets.specs.Sessions.{openResult, packetAnswer, packetResult, memoryAfterPacket, finishAnswer}
 use Rattle.packets.specs.Lists.{Request, played, packetOf, AllBytes}
 use Rattle.packets.proofs.Following.{played-made, packets-follow-the-rule}
 use Rattle.audit.specs.Cases.{keyOver, domainA}
 use Rattle.audit.specs.CaseM.{requestsM, abandonedM, sessionM, memoryM, all, CaseM, MadeAndFollows, CaseMFollows}
+use Rattle.audit.proofs.Computing.{opened, both, small, small-bytes}
 
 -- Case M holds, since both of its sides compute to the same numbers.
 pub case-M : CaseM
-unfolding timesX crcByte stepped guardValue referenceTag bytesOf fieldOf computedField escaped checkedMask differs maskOf differing firstBad judged agreed copyMask merged outputField repeats numbersFrom placesOf size scattered someCountZero malformed someBeyond sharesWith someShare verdictOn signatureAnswer configureAnswer streamLength blockSize fieldSize slotOf errorBy checksGuard makesGuard arrived errorDue fieldMade settled fed emitted packetAnswer packetResult memoryAfterPacket finishAnswer played all
+unfolding opened stepped guardValue checksGuard makesGuard arrived errorDue fieldMade settled fed emitted packetAnswer packetResult memoryAfterPacket finishAnswer played all
 case-M = (refl, refl)
 
 -- ---- demand 3 for these lists
-
--- The test `small` is true if all numbers of a list are below 256.
-small : List ℕ → Bool
-small [] = true
-small (x ∷ xs) = ltb x 256 && small xs
-
-both : (a b : Bool) → a && b ≡ true → (a ≡ true) × (b ≡ true)
-both true true e = (refl, refl)
-both true false e = let z : _≡_ {A = ℕ} 0 1 = cc in absurd (omega arith)
-both false b e = let z : _≡_ {A = ℕ} 0 1 = cc in absurd (omega arith)
-
-small-bytes : (xs : List ℕ) → small xs ≡ true → Bytes xs
-unfolding small
-small-bytes [] e i = omega arith
-small-bytes (x ∷ xs) e zero = ltb-true x 256 (both (ltb x 256) (small xs) e .0)
-small-bytes (x ∷ xs) e (suc i) = small-bytes xs (both (ltb x 256) (small xs) e .1) i
 
 -- The test `all-small` is true if all packets that are asked for are bytes.
 all-small : List Request → Bool
@@ -66,7 +35,7 @@ small-requests (r ∷ rs) e (suc i) = small-requests rs (both (small (packetOf r
 
 -- The open of case M is accepted.
 opens : openResult (keyOver 16 domainA 0xFF) 16 (record { 0 = 0 }) 16 .outcome ≡ Done
-unfolding someCountZero malformed someBeyond sharesWith someShare verdictOn signatureAnswer configureAnswer repeats size streamLength openAnswer
+unfolding opened
 opens = refl
 
 -- A list of packets can be made, and demand 3 states that it follows the packet rule.

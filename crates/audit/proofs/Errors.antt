@@ -166,7 +166,7 @@ checked-bytes true m =
     let b : m % 64 / 64 % 2 ≡ 0 = omega arith in
     rw (a, b, kept 1 32 m (omega arith) (omega arith), kept 2 16 m (omega arith) (omega arith), kept 4 8 m (omega arith) (omega arith), kept 8 4 m (omega arith) (omega arith), kept 16 2 m (omega arith) (omega arith), kept 32 1 m (omega arith) (omega arith))
 
-apart : _≡_ {A = Bool} false true → ⊥
+pub apart : _≡_ {A = Bool} false true → ⊥
 apart h = let z : _≡_ {A = ℕ} 0 1 = cc in omega arith
 
 -- A byte that is checked and that the test does not find bad is right.
@@ -264,18 +264,22 @@ module _ (r : Rule) (stream : List ℕ) where
           one-more-block s i l true e = all s i (ltb-true i n e)
           one-more-block s i l false e = let same : i ≡ n = omega (arith, ltb-false i n e) in rw same (h s)
 
+  -- A block with a bad tag is not good.
+  pub bad-not-good : (i : ℕ) (p : Tag) → FirstBadTag r stream i p → GoodBlock r stream i → ⊥
+  bad-not-good i p f good = f .bad .wrong (good (f .byte) (within p (f .byte) (f .to)) (f .bad .checked))
+    where
+      within : (p : Tag) (k : ℕ) → k < after p → k < 8
+      within Guard k h = omega arith
+      within Application k h = omega arith
+      within Reference k h = h
+
   -- Demand 2 holds for errors: the transfer rule's first error is that of the first bad block.
   pub errors-recorded : (n : ℕ) → HoldsFirstError r stream n (firstError r stream n)
   errors-recorded n = go (firstError r stream n) (first-says n)
     where
       -- If one of n blocks is bad, not all of them are good.
       never : (e : Error) → FirstBadBlock r stream n e → ((i : ℕ) → i < n → GoodBlock r stream i) → ⊥
-      never e f all = let p = f .tag in p .bad .wrong (all (f .block) (f .among) (p .byte) (within (e .mismatch .tag) (p .byte) (p .to)) (p .bad .checked))
-        where
-          within : (p : Tag) (k : ℕ) → k < after p → k < 8
-          within Guard k h = omega arith
-          within Application k h = omega arith
-          within Reference k h = h
+      never e f all = bad-not-good (f .block) (e .mismatch .tag) (f .tag) (all (f .block) (f .among))
 
       go : (a : Slot) → SaysAll n a → HoldsFirstError r stream n a
       go Empty h = record { unsigned = λ s. refl; none = λ s. ((λ q. h s), (λ q. refl)); some = λ s e q. let z : _≡_ {A = ℕ} 0 1 = cc in absurd (omega arith) }

@@ -49,7 +49,7 @@ found-byte bs b k h =
     (split-joined (getD bs 0 0) (getD bs 1 0) (getD bs 2 0) (getD bs 3 0) (getD bs 4 0) (getD bs 5 0) (getD bs 6 0) (getD bs 7 0) (b 1) (b 3) (b 5) (b 6) (b 7))
     ∙ eight-at (λ (i : ℕ). getD bs i 0) k h
 
-bytes-drop : (n : ℕ) (xs : List ℕ) → Bytes xs → Bytes (drop n xs)
+pub bytes-drop : (n : ℕ) (xs : List ℕ) → Bytes xs → Bytes (drop n xs)
 bytes-drop n xs b i = rw (getD-drop n xs i 0) (b (n + i))
 
 -- The bytes of the field found after block i are those after block i in the stream.
