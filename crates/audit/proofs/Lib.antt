@@ -1,6 +1,8 @@
 pub mod Computing
 pub mod Cases
 pub mod Errors
+pub mod BlockBits
+pub mod Bursts
 pub mod Destination
 pub mod FieldBytes
 pub mod Copying
