@@ -1,7 +1,8 @@
 //! Compares the library with the model: settled and random cases, call by call, and cases with structs that no call ever
 //! made. All calls are made in child processes, so that the program survives a crash of the library and can make the case
-//! small.
+//! small. `bursts` tests which changes of a block the library is sure to find.
 
+pub mod bursts;
 mod child;
 mod compared;
 mod guarded;

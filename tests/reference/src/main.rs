@@ -1,13 +1,14 @@
 //! The commands of the independent test program.
 
 #[cfg(feature = "live")]
-use reference::live;
+use reference::live::{self, bursts};
 use reference::{paper, replay};
 use std::process::ExitCode;
 
 const USAGE: &str = "usage: reference paper
        reference replay SEED CASEFILE ANSWERFILE
-       reference live COUNT SEED [--from NUMBER] [--exact]";
+       reference live COUNT SEED [--from NUMBER] [--exact]
+       reference bursts COUNT SEED";
 
 fn main() -> ExitCode {
     let arguments: Vec<String> = std::env::args().skip(1).collect();
@@ -16,6 +17,7 @@ fn main() -> ExitCode {
         ["paper"] => run_paper(),
         ["replay", seed, case_file, answer_file] => run_replay(seed, case_file, answer_file),
         ["live", count, seed, ref options @ ..] => run_live(count, seed, options),
+        ["bursts", count, seed] => run_bursts(count, seed),
         _ => Err(USAGE.to_string()),
     };
     match outcome {
@@ -79,7 +81,20 @@ fn with_options(run: live::Run, options: &[&str]) -> Result<live::Run, String> {
     }
 }
 
+#[cfg(feature = "live")]
+fn run_bursts(count: &str, seed: &str) -> Result<(), String> {
+    bursts::bursts(number(count)?, number(seed)?)
+}
+
+#[cfg(not(feature = "live"))]
+const WITHOUT_LIBRARY: &str = "this program was built without the library: build it with --features live";
+
 #[cfg(not(feature = "live"))]
 fn run_live(_: &str, _: &str, _: &[&str]) -> Result<(), String> {
-    Err("this program was built without the library: build it with --features live".to_string())
+    Err(WITHOUT_LIBRARY.to_string())
+}
+
+#[cfg(not(feature = "live"))]
+fn run_bursts(_: &str, _: &str) -> Result<(), String> {
+    Err(WITHOUT_LIBRARY.to_string())
 }
