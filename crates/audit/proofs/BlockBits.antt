@@ -13,7 +13,7 @@ use lib.ListN.{length, getD, List·getD-eq-default}
 use Rattle.crc.specs.Division.{followed}
 use Rattle.crc.proofs.Pieces.{followed-first}
 use Rattle.guard.specs.Guards.{Bytes}
-use Rattle.audit.specs.Bursts.{bitAt, Differ, Burst}
+use Rattle.audit.specs.Bursts.{bitAt, Burst}
 
 -- ---- the bits of a number
 

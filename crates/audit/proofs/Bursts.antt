@@ -1,8 +1,8 @@
 -- These laws prove request 9: a CRC guard finds every burst of at most 16 bits, and not every one of 17.
 use mathlib.Core.Path.{_≡_, refl, sym, ap, _∙_}
 use mathlib.Core.Bool.{Bool, true, false, _&&_, _||_}
-use mathlib.Core.List.{List, [], _∷_}
-use Prim.Native.Nat.{ℕ, zero, suc, _+_, _*_, _/_, _%_, _^_, _≤_, _<_}
+use mathlib.Core.List.{List}
+use Prim.Native.Nat.{ℕ, zero, suc, _+_, _*_, _/_, _^_, _≤_, _<_}
 use native.Mathlib.Nat.{zero-mul}
 use native.Mathlib.Decide.{ℕ-discrete, decLe, decLt}
 use native.Mathlib.Omega.{arith}
@@ -20,7 +20,6 @@ use Rattle.field.specs.declared.Tag.the-variants.{Guard}
 use Rattle.field.specs.Domains.{signed}
 use Rattle.field.specs.Fields.{bytesOf, bytesIn, fieldOf, computedField}
 use Rattle.field.specs.Judging.{escaped}
-use Rattle.slot.specs.declared.Error.{Error}
 use Rattle.slot.specs.declared.Slot.{Slot}
 use Rattle.slot.specs.declared.Slot.the-variants.{Empty, Holding}
 use Rattle.key.specs.declared.Key.{Key}
@@ -31,14 +30,15 @@ use Rattle.engine.specs.Streams.{inBlock, inUnit, inputBlock}
 use Rattle.engine.proofs.Settling.{bytes-take}
 use Rattle.transfer.specs.Rules.{receiveRule}
 use Rattle.transfer.specs.Transferring.{wireStream}
+use Rattle.cstructs.proofs.Laws.{both}
 use Rattle.audit.specs.Errors.{found, computed, RightByte, FirstBadTag, FirstBadBlock, HoldsFirstError}
 use Rattle.audit.specs.Bursts.{bitAt, Differ, Burst, Guarded, Damaged, sureBits, FindsBursts, RecordedUpTo}
-use Rattle.audit.specs.Bursts.{ReceiveFindsBurst, ruleA, wireSixteen, wireSeventeen, BurstExamples}
+use Rattle.audit.specs.Bursts.{ReceiveFindsBurst, ruleA, wireSeventeen, BurstExamples}
 use Rattle.audit.specs.Cases.{wire, fieldA}
 use Rattle.audit.proofs.FieldBytes.{bytes-drop}
 use Rattle.audit.proofs.Errors.{apart, bad-not-good, receive-records}
 use Rattle.audit.proofs.BlockBits.{same-after-end, same-bits, burst-short}
-use Rattle.audit.proofs.Computing.{opened, both, small, small-bytes, all-below, below-true}
+use Rattle.audit.proofs.Computing.{opened, small, small-bytes, all-below, below-true}
 
 -- ---- the CRCs of two blocks
 

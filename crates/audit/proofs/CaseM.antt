@@ -11,9 +11,10 @@ use Rattle.engine.specs.Feeding.{checksGuard, makesGuard, arrived, errorDue, fi
 use Rattle.packets.specs.Sessions.{openResult, packetAnswer, packetResult, memoryAfterPacket, finishAnswer}
 use Rattle.packets.specs.Lists.{Request, played, packetOf, AllBytes}
 use Rattle.packets.proofs.Following.{played-made, packets-follow-the-rule}
+use Rattle.cstructs.proofs.Laws.{both}
 use Rattle.audit.specs.Cases.{keyOver, domainA}
 use Rattle.audit.specs.CaseM.{requestsM, abandonedM, sessionM, memoryM, all, CaseM, MadeAndFollows, CaseMFollows}
-use Rattle.audit.proofs.Computing.{opened, both, small, small-bytes}
+use Rattle.audit.proofs.Computing.{opened, small, small-bytes}
 
 -- Case M holds, since both of its sides compute to the same numbers.
 pub case-M : CaseM

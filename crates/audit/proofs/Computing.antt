@@ -1,6 +1,6 @@
 -- The laws that are proved by computing share a list of definitions that they open, and tests that they compute.
-use mathlib.Core.Path.{_≡_, refl}
-use mathlib.Core.Bool.{Bool, true, false, _&&_}
+use mathlib.Core.Path.{_≡_}
+use mathlib.Core.Bool.{Bool, true, _&&_}
 use mathlib.Core.List.{List, [], _∷_}
 use Prim.Native.Nat.{ℕ, zero, suc, _<_}
 use native.Mathlib.Decide.{ℕ-discrete}
@@ -25,6 +25,7 @@ use Rattle.key.specs.Admitting.{openAnswer, transferAnswer}
 use Rattle.engine.specs.Streams.{blockSize, fieldSize, inputBlock, inputField}
 use Rattle.engine.specs.Transfers.{joined, dataOf, outputBlock, fieldAfter, outputStream, slotOf, errorBy, firstError}
 use Rattle.transfer.specs.Transferring.{sendResult, wireAfterSend, receiveResult, memoryAfterReceive}
+use Rattle.cstructs.proofs.Laws.{both}
 
 -- A law with `opened` on its `unfolding` line opens the definitions of configure, of a transfer and of check.
 unfoldable pub opened : Unit {0}
@@ -35,12 +36,6 @@ opened = tt
 unfoldable pub small : List ℕ → Bool
 small [] = true
 small (x ∷ xs) = ltb x 256 && small xs
-
--- If a && b is true, then a is true and b is true.
-pub both : (a b : Bool) → a && b ≡ true → (a ≡ true) × (b ≡ true)
-both true true e = (refl, refl)
-both true false e = let z : _≡_ {A = ℕ} 0 1 = cc in absurd (omega arith)
-both false b e = let z : _≡_ {A = ℕ} 0 1 = cc in absurd (omega arith)
 
 -- The elements of a list that passes this test are bytes.
 pub small-bytes : (xs : List ℕ) → small xs ≡ true → Bytes xs

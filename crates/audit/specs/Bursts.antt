@@ -100,7 +100,7 @@ pub record RecordedUpTo (r : Rule) (stream : List ℕ) (n i : ℕ) (slot : Slot)
 
 -- In an accepted receive of the damaged wire the guard of block i is bad. If the slot was empty, the receive records
 -- the error of this block or of one before it. There is no premise about the seed, because configure accepts only 0 and
--- 0xFFFF. For a receive by packets, demand 3 says that its recorded error is that of one receive.
+-- 0xFFFF. Once all bytes of a receive by packets have come, its recorded error is that of one receive, by demand 3.
 abbrev pub ReceiveFindsBurst : (k : Key) (memory intact damaged : List ℕ) (offset dataLength i : ℕ) → Type 0
 ReceiveFindsBurst k memory intact damaged offset dataLength i =
     let r = receiveRule (k .signature) in

@@ -34,7 +34,8 @@ use Rattle.cstructs.specs.declared.CSide.{CSide}
 use Rattle.cstructs.specs.declared.CSession.{CSession}
 use Rattle.cstructs.specs.CStructs.{keySeal, sessionSeal, signatureToC, signatureFromC, slotFromNumbers, alike, flag, isFlag, errorValid, configuredOrEmpty, keyFromC, keyToC, cKeyValid, sideFromC, sideToC, cSideValid, sessionFromC, sessionToC, cSessionValid, unsealed, noSession}
 
-both : (a b : Bool) → a && b ≡ true → (a ≡ true) × (b ≡ true)
+-- If a && b is true, then a is true and b is true.
+pub both : (a b : Bool) → a && b ≡ true → (a ≡ true) × (b ≡ true)
 both true b h = (refl, h)
 both false b h = let z : _≡_ {A = ℕ} 0 1 = cc in absurd (omega arith)
 
