@@ -2,7 +2,7 @@
 use mathlib.Core.Path.{_≡_, refl, sym, ap, _∙_}
 use mathlib.Core.Bool.{Bool, true, false, _&&_, _||_}
 use mathlib.Core.List.{List}
-use Prim.Native.Nat.{ℕ, zero, suc, _+_, _*_, _/_, _^_, _≤_, _<_}
+use Prim.Native.Nat.{ℕ, _+_, _*_, _/_, _^_, _≤_, _<_}
 use native.Mathlib.Nat.{zero-mul}
 use native.Mathlib.Decide.{ℕ-discrete, decLe, decLt}
 use native.Mathlib.Omega.{arith}
@@ -36,7 +36,8 @@ use Rattle.audit.specs.Bursts.{bitAt, Differ, Burst, Guarded, Damaged, s
 use Rattle.audit.specs.Bursts.{ReceiveFindsBurst, ruleA, wireSeventeen, BurstExamples}
 use Rattle.audit.specs.Cases.{wire, fieldA}
 use Rattle.audit.proofs.FieldBytes.{bytes-drop}
-use Rattle.audit.proofs.Errors.{apart, bad-not-good, receive-records}
+use Rattle.audit.proofs.Below.{two-below}
+use Rattle.audit.proofs.Errors.{bad-not-good, receive-records}
 use Rattle.audit.proofs.BlockBits.{same-after-end, same-bits, burst-short}
 use Rattle.audit.proofs.Computing.{opened, small, small-bytes, all-below, below-true}
 
@@ -99,7 +100,7 @@ finds-bursts r intact damaged i bi bd s g d = go (ℕ-discrete _ _)
       bad = record {
         checked = record {
           masked = g .masked k h;
-          unescaped = λ e l. apart (sym (g .unescaped) ∙ sym (ap (escaped (r .input)) same-field) ∙ e);
+          unescaped = ap (escaped (r .input)) same-field ∙ g .unescaped;
         };
         wrong = wrong;
       };
@@ -182,12 +183,6 @@ burst-by-test start width xs ys l f e = record {
         (leb-true start n (t .0), ltb-true n (start + width) (t .1))
     go n d (no h) = absurd (d (same-after-end xs ys l n (omega (arith, h))))
 
--- A property of 0 and of 1 holds for all numbers below 2.
-for-two : (P : ℕ → Type 0) → P 0 → P 1 → (k : ℕ) → k < 2 → P k
-for-two P p q zero h = p
-for-two P p q (suc zero) h = q
-for-two P p q (suc (suc k)) h = absurd (omega arith)
-
 -- The burst of 16 bits is found. The one of 17 bits is not: the guard of the damaged block is right.
 pub burst-examples : BurstExamples
 unfolding opened all-below near small
@@ -207,8 +202,8 @@ burst-examples = record {
     guarded = record {
       kind = refl;
       crc = refl;
-      right = for-two (RightByte ruleA (wire fieldA 0) 0) refl refl;
-      masked = for-two (λ (k : ℕ). getD (bytesIn (ruleA .«check_mask»)) k false ≡ true) refl refl;
+      right = two-below (RightByte ruleA (wire fieldA 0) 0) refl refl;
+      masked = two-below (λ (k : ℕ). getD (bytesIn (ruleA .«check_mask»)) k false ≡ true) refl refl;
       unescaped = refl;
     }
 
@@ -216,4 +211,4 @@ burst-examples = record {
     seventeen = record { block = burst-by-test 39 17 _ _ refl refl refl; field = refl }
 
     not-found : FirstBadTag ruleA wireSeventeen 0 Guard → ⊥
-    not-found f = f .bad .wrong (for-two (RightByte ruleA wireSeventeen 0) refl refl (f .byte) (f .to))
+    not-found f = f .bad .wrong (two-below (RightByte ruleA wireSeventeen 0) refl refl (f .byte) (f .to))

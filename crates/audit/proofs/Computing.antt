@@ -3,7 +3,6 @@ use mathlib.Core.Path.{_≡_}
 use mathlib.Core.Bool.{Bool, true, _&&_}
 use mathlib.Core.List.{List, [], _∷_}
 use Prim.Native.Nat.{ℕ, zero, suc, _<_}
-use native.Mathlib.Decide.{ℕ-discrete}
 use native.Mathlib.Omega.{arith}
 use lib.Dec.{ltb}
 use borrow.Author.Tests.{ltb-true}
@@ -26,6 +25,7 @@ use Rattle.engine.specs.Streams.{blockSize, fieldSize, inputBlock, inputField}
 use Rattle.engine.specs.Transfers.{joined, dataOf, outputBlock, fieldAfter, outputStream, slotOf, errorBy, firstError}
 use Rattle.transfer.specs.Transferring.{sendResult, wireAfterSend, receiveResult, memoryAfterReceive}
 use Rattle.cstructs.proofs.Laws.{both}
+use Rattle.audit.proofs.Below.{none-below, one-more}
 
 -- A law with `opened` on its `unfolding` line opens the definitions of configure, of a transfer and of check.
 unfoldable pub opened : Unit {0}
@@ -52,9 +52,7 @@ all-below test (suc m) = test m && all-below test m
 -- A test that is true of all numbers below m is true of each of them.
 pub below-true : (test : ℕ → Bool) (m : ℕ) → all-below test m ≡ true → (n : ℕ) → n < m → test n ≡ true
 unfolding all-below
-below-true test zero e n h = absurd (omega arith)
-below-true test (suc m) e n h = go (ℕ-discrete n m) (below-true test m (both (test m) (all-below test m) e .1) n)
-  where
-    go : Dec (n ≡ m) → (n < m → test n ≡ true) → test n ≡ true
-    go (yes same) ih = rw same (both (test m) (all-below test m) e .0)
-    go (no other) ih = ih (omega (arith, other))
+below-true test zero e = none-below (λ (n : ℕ). test n ≡ true)
+below-true test (suc m) e =
+    let t = both (test m) (all-below test m) e in
+    one-more (λ (n : ℕ). test n ≡ true) m (below-true test m (t .1)) (t .0)

@@ -3,13 +3,11 @@
 use mathlib.Core.Path.{_≡_, refl, sym, ap, _∙_}
 use mathlib.Core.Bool.{Bool, true, false, _&&_, _||_, not, cond}
 use mathlib.Core.List.{List, [], _∷_}
-use Prim.Native.Nat.{ℕ, zero, suc, _+_, _*_, _/_, _%_, _≤_, _<_}
-use native.Mathlib.Nat.{div-eq-of-lt, mod-lt, mul-add-div-right}
+use Prim.Native.Nat.{ℕ, zero, suc, _+_, _*_, _%_, _≤_, _<_}
 use native.Mathlib.Omega.{arith}
-use lib.Arith.{mod-mul}
 use lib.Dec.{eqb, ltb, leb}
 use lib.ListN.{getD}
-use borrow.Author.Tests.{le-leb, lt-leb, not-true, not-false, eqb-true, eqb-false, lt-ltb, ltb-true, ltb-false}
+use borrow.Author.Tests.{le-leb, lt-leb, not-true, not-false, eqb-true, eqb-false, lt-ltb}
 use Rattle.field.specs.declared.ProtectionField.{ProtectionField}
 use Rattle.field.specs.declared.Judgement.{Judgement}
 use Rattle.field.specs.declared.Judgement.the-variants.{Good, Bad}
@@ -30,6 +28,7 @@ use Rattle.engine.specs.Streams.{inUnit, inputBlock}
 use Rattle.engine.specs.Transfers.{joined, guardBy, slotOf, errorBy, errorOf, firstError}
 use Rattle.engine.proofs.Units.{errors-last}
 use Rattle.transfer.specs.Transferring.{sendResult, receiveResult}
+use Rattle.audit.proofs.Below.{none-below, one-more, two-below}
 use Rattle.audit.specs.Errors.{found, computed, GoodByte, BadByte, GoodBlock, first, after, valueOf, FirstBadTag, FirstBadBlock, HoldsFirstError, SendFindsFirstError, ReceiveFindsFirstError}
 
 -- ---- a set of eight bytes as a mask: which tags have a byte in it
@@ -103,22 +102,12 @@ data Told (bad : ℕ → Bool) (rule seen : ProtectionField) : Judgement → Typ
   tag-bad : (p : Tag) (k : ℕ) → first p ≤ k → k < after p → bad k ≡ true → ((j : ℕ) → j < first p → bad j ≡ false) → Told bad rule seen (Bad (mismatch p rule seen))
 
 module _ (bad : ℕ → Bool) where
-  none-bad : (k : ℕ) → k < 0 → bad k ≡ false
-  none-bad k h = absurd (omega arith)
+  -- The property `NotBad k` says that the test of byte k is false.
+  abbrev NotBad : ℕ → Type 0
+  NotBad k = bad k ≡ false
 
-  -- If neither byte n nor any byte before it is bad, no byte before byte n + 1 is bad.
-  one-more : (n : ℕ) → ((k : ℕ) → k < n → bad k ≡ false) → bad n ≡ false → (k : ℕ) → k < n + 1 → bad k ≡ false
-  one-more n t p k h = go (ltb k n) refl
-    where
-      go : (b : Bool) → ltb k n ≡ b → bad k ≡ false
-      go true e = t k (ltb-true k n e)
-      go false e = let s : k ≡ n = omega (arith, ltb-false k n e) in rw s p
-
-  two : bad 0 ≡ false → bad 1 ≡ false → (k : ℕ) → k < 2 → bad k ≡ false
-  two p q = one-more 1 (one-more 0 none-bad p) q
-
-  four : bad 0 ≡ false → bad 1 ≡ false → bad 2 ≡ false → bad 3 ≡ false → (k : ℕ) → k < 4 → bad k ≡ false
-  four p q r s = one-more 3 (one-more 2 (two p q) r) s
+  four : NotBad 0 → NotBad 1 → NotBad 2 → NotBad 3 → (k : ℕ) → k < 4 → NotBad k
+  four p q r s = one-more NotBad 3 (one-more NotBad 2 (two-below NotBad p q) r) s
 
   module _ (rule seen : ProtectionField) where
     -- The judgement that is chosen by the tests of the eight bytes fits them.
@@ -127,16 +116,16 @@ module _ (bad : ℕ → Bool) where
         (cond (a || b) (Bad (mismatch Guard rule seen))
         (cond (c || d) (Bad (mismatch Application rule seen))
         (cond ((e || f) || (g || h)) (Bad (mismatch Reference rule seen)) Good)))
-    by-bytes true b c d e f g h i j k l m n o p = tag-bad Guard 0 (omega arith) (omega arith) i none-bad
-    by-bytes false true c d e f g h i j k l m n o p = tag-bad Guard 1 (omega arith) (omega arith) j none-bad
-    by-bytes false false true d e f g h i j k l m n o p = tag-bad Application 2 (omega arith) (omega arith) k (two i j)
-    by-bytes false false false true e f g h i j k l m n o p = tag-bad Application 3 (omega arith) (omega arith) l (two i j)
+    by-bytes true b c d e f g h i j k l m n o p = tag-bad Guard 0 (omega arith) (omega arith) i (none-below NotBad)
+    by-bytes false true c d e f g h i j k l m n o p = tag-bad Guard 1 (omega arith) (omega arith) j (none-below NotBad)
+    by-bytes false false true d e f g h i j k l m n o p = tag-bad Application 2 (omega arith) (omega arith) k (two-below NotBad i j)
+    by-bytes false false false true e f g h i j k l m n o p = tag-bad Application 3 (omega arith) (omega arith) l (two-below NotBad i j)
     by-bytes false false false false true f g h i j k l m n o p = tag-bad Reference 4 (omega arith) (omega arith) m (four i j k l)
     by-bytes false false false false false true g h i j k l m n o p = tag-bad Reference 5 (omega arith) (omega arith) n (four i j k l)
     by-bytes false false false false false false true h i j k l m n o p = tag-bad Reference 6 (omega arith) (omega arith) o (four i j k l)
     by-bytes false false false false false false false true i j k l m n o p = tag-bad Reference 7 (omega arith) (omega arith) p (four i j k l)
     by-bytes false false false false false false false false i j k l m n o p =
-        all-good (one-more 7 (one-more 6 (one-more 5 (one-more 4 (four i j k l) m) n) o) p)
+        all-good (one-more NotBad 7 (one-more NotBad 6 (one-more NotBad 5 (one-more NotBad 4 (four i j k l) m) n) o) p)
 
     -- The judgement `firstBad` of the set of bad bytes fits the test of each byte.
     told : Told bad rule seen (firstBad (maskOf 0 (bad 0 ∷ bad 1 ∷ bad 2 ∷ bad 3 ∷ bad 4 ∷ bad 5 ∷ bad 6 ∷ bad 7 ∷ [])) rule seen)
@@ -147,47 +136,31 @@ module _ (bad : ℕ → Bool) where
 
 -- ---- the field of a block
 
--- The remainder of a number by j * 2 * place has the same binary digit at that place as the number.
-kept : (j place m : ℕ) → 0 < j → 0 < place → m % (j * 2 * place) / place % 2 ≡ m / place % 2
-kept j place m h p =
-    let d : m % place / place ≡ 0 = div-eq-of-lt (mod-lt m p) in
-    let top : m % (j * 2 * place) / place ≡ m / place % (j * 2) =
-    ap (λ (x : ℕ). x / place) (mod-mul m {m = j * 2} {c = place} (omega arith) p) ∙ (mul-add-div-right p (m / place % (j * 2)) (m % place) ∙ omega arith) in
-    let low : m / place % (j * 2) ≡ (m / place / 2 % j) * 2 + m / place % 2 = mod-mul (m / place) {m = j} {c = 2} h (omega arith) in
-    rw (top, low) (omega arith)
-
--- The checked bytes are those of the check mask, without an escaped block's guard bytes.
-checked-bytes : (e : Bool) (m : ℕ) → bytesIn (cond e (m % 64) m)
-    ≡ (not (e && true) && bit m 128) ∷ (not (e && true) && bit m 64) ∷ (not (e && false) && bit m 32) ∷ (not (e && false) && bit m 16)
-    ∷ (not (e && false) && bit m 8) ∷ (not (e && false) && bit m 4) ∷ (not (e && false) && bit m 2) ∷ (not (e && false) && bit m 1) ∷ []
+-- The checked bytes are those of the check mask, and none in an escaped block.
+checked-bytes : (e : Bool) (m : ℕ) → bytesIn (cond e 0 m)
+    ≡ (not e && bit m 128) ∷ (not e && bit m 64) ∷ (not e && bit m 32) ∷ (not e && bit m 16)
+    ∷ (not e && bit m 8) ∷ (not e && bit m 4) ∷ (not e && bit m 2) ∷ (not e && bit m 1) ∷ []
 checked-bytes false m = refl
-checked-bytes true m =
-    let a : m % 64 / 128 % 2 ≡ 0 = omega arith in
-    let b : m % 64 / 64 % 2 ≡ 0 = omega arith in
-    rw (a, b, kept 1 32 m (omega arith) (omega arith), kept 2 16 m (omega arith) (omega arith), kept 4 8 m (omega arith) (omega arith), kept 8 4 m (omega arith) (omega arith), kept 16 2 m (omega arith) (omega arith), kept 32 1 m (omega arith) (omega arith))
+checked-bytes true m = refl
 
 pub apart : _≡_ {A = Bool} false true → ⊥
 apart h = let z : _≡_ {A = ℕ} 0 1 = cc in omega arith
 
 -- A byte that is checked and that the test does not find bad is right.
-not-bad : (e m t : Bool) (x y : ℕ) → (not (e && t) && m) && not (eqb x y) ≡ false → m ≡ true → (e ≡ true → t ≡ true → ⊥) → x ≡ y
-not-bad true m true x y h p q = absurd (q refl refl)
-not-bad true m false x y h p q = eqb-true x y (not-false (eqb x y) (rw p at h))
-not-bad false m t x y h p q = eqb-true x y (not-false (eqb x y) (rw p at h))
+not-bad : (e m : Bool) (x y : ℕ) → (not e && m) && not (eqb x y) ≡ false → m ≡ true → e ≡ false → x ≡ y
+not-bad e m x y h p q = eqb-true x y (not-false (eqb x y) (rw (p, q) at h))
 
 -- A byte that the test finds bad is checked and wrong.
-bad-is : (e m t : Bool) (x y : ℕ) → (not (e && t) && m) && not (eqb x y) ≡ true → (m ≡ true) × (e ≡ true → t ≡ true → ⊥) × (x ≡ y → ⊥)
-bad-is true true false x y h = (refl, (λ p q. apart q), eqb-false x y (not-true (eqb x y) h))
-bad-is false true t x y h = (refl, (λ p q. apart p), eqb-false x y (not-true (eqb x y) h))
-bad-is true m true x y h = absurd (apart h)
-bad-is true false false x y h = absurd (apart h)
-bad-is false false t x y h = absurd (apart h)
+bad-is : (e m : Bool) (x y : ℕ) → (not e && m) && not (eqb x y) ≡ true → (m ≡ true) × (e ≡ false) × (x ≡ y → ⊥)
+bad-is false true x y h = (refl, refl, eqb-false x y (not-true (eqb x y) h))
+bad-is false false x y h = absurd (apart h)
+bad-is true m x y h = absurd (apart h)
 
 module _ (r : Rule) (stream : List ℕ) (i : ℕ) where
   -- The test `badByte k` is true if byte k is checked and wrong.
   badByte : ℕ → Bool
   badByte k =
-      (not (escaped (r .input) (found r stream i) && ltb k 2) && getD (bytesIn (r .«check_mask»)) k false) &&
+      (not (escaped (r .input) (found r stream i)) && getD (bytesIn (r .«check_mask»)) k false) &&
       not (eqb (getD (bytesOf (found r stream i)) k 0) (getD (bytesOf (computed r stream i)) k 0))
 
   -- The checked bytes that differ are the bad bytes.
@@ -205,14 +178,14 @@ module _ (r : Rule) (stream : List ℕ) (i : ℕ) where
   -- A byte for which `badByte` is false is a `GoodByte`.
   good-byte : (k : ℕ) → badByte k ≡ false → GoodByte r stream i k
   unfolding badByte
-  good-byte k h c = not-bad (escaped (r .input) (found r stream i)) (getD (bytesIn (r .«check_mask»)) k false) (ltb k 2) _ _ h (c .masked) (λ e t. c .unescaped e (ltb-true k 2 t))
+  good-byte k h c = not-bad (escaped (r .input) (found r stream i)) (getD (bytesIn (r .«check_mask»)) k false) _ _ h (c .masked) (c .unescaped)
 
   -- A byte for which `badByte` is true is a `BadByte`.
   bad-byte : (k : ℕ) → badByte k ≡ true → BadByte r stream i k
   unfolding badByte
   bad-byte k h =
-      let b = bad-is (escaped (r .input) (found r stream i)) (getD (bytesIn (r .«check_mask»)) k false) (ltb k 2) _ _ h in
-      record { checked = record { masked = b .0; unescaped = λ e l. b .1 e (lt-ltb k 2 l) }; wrong = b .2 }
+      let b = bad-is (escaped (r .input) (found r stream i)) (getD (bytesIn (r .«check_mask»)) k false) _ _ h in
+      record { checked = record { masked = b .0; unescaped = b .1 }; wrong = b .2 }
 
   -- ---- the slot after a block
 
@@ -258,11 +231,7 @@ module _ (r : Rule) (stream : List ℕ) where
       go : (a b : Slot) → SaysAll n a → Says r stream n b → SaysAll (suc n) (keep a b)
       go (Holding e) b (s, f) h = (s, record { block = f .block; among = omega (arith, f .among); before = f .before; tag = f .tag; actual = f .actual; expected = f .expected; offset = f .offset })
       go Empty (Holding e) all (s, p, a, x, o) = (s, record { block = n; among = omega arith; before = all s; tag = p; actual = a; expected = x; offset = o })
-      go Empty Empty all h = λ s i l. one-more-block s i l (ltb i n) refl
-        where
-          one-more-block : signed (r .input) ≡ true → (i : ℕ) → i < suc n → (b : Bool) → ltb i n ≡ b → GoodBlock r stream i
-          one-more-block s i l true e = all s i (ltb-true i n e)
-          one-more-block s i l false e = let same : i ≡ n = omega (arith, ltb-false i n e) in rw same (h s)
+      go Empty Empty all h = λ s. one-more (GoodBlock r stream) n (all s) (h s)
 
   -- A block with a bad tag is not good.
   pub bad-not-good : (i : ℕ) (p : Tag) → FirstBadTag r stream i p → GoodBlock r stream i → ⊥

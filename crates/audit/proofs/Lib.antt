@@ -1,3 +1,4 @@
+pub mod Below
 pub mod Computing
 pub mod Cases
 pub mod Errors

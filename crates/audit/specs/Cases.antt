@@ -1,9 +1,10 @@
--- Cases A to L (01, "Numbers to hold the definitions to"), computed by the definitions that the contracts cite.
+-- Cases A to L (01, "Numbers to hold the definitions to"; H by 02, request 2), computed by the definitions that the
+-- contracts cite.
 --
 --   entry, twoEntries, domain, configuration, keyOver    what the cases share
 --   numbers, answers, received, checksumSent             what a case shows
 --   domainA, dataA, unit, wire, fieldA, domainH, fieldH, zeros, layoutJ, configureJ    the inputs of the cases
---   worked, said                                         what the definitions give, and what 01 says
+--   worked, said                                         what the definitions give, and what the papers say
 --   CasesHold                                            they are the same
 use mathlib.Core.Path.{_≡_}
 use mathlib.Core.List.{List, [], _∷_, _++_}
@@ -124,7 +125,7 @@ layoutJ second = twoEntries (entry 0 512 4) (entry second 8 0) 2 2
 abbrev pub configureJ : (n second : ℕ) → ℕ
 configureJ n second = number (configureResult freshKey n (configuration domainA 0xFF (layoutJ second)) .outcome)
 
--- ---- the cases, and what 01 says of each
+-- ---- the cases, and what the papers say of each
 
 -- What the definitions give.
 unfoldable pub worked : List (List ℕ)
@@ -159,7 +160,7 @@ worked =
     ∷ (configureJ 1044 1027 ∷ [])
     ∷ []
 
--- What 01 says.
+-- What 01 says, and for H 02, request 2.
 unfoldable pub said : List (List ℕ)
 said =
     -- A
@@ -176,8 +177,8 @@ said =
     ∷ (0xFFF5 ∷ 0xFFF5 ∷ [])
     -- G
     ∷ (0xFFFE ∷ [])
-    -- H
-    ∷ (0 ∷ 32 ∷ 16 ∷ 3 ∷ 0x1234 ∷ 0xFFFF ∷ 0 ∷ [])
+    -- H: no error
+    ∷ (0 ∷ 32 ∷ 16 ∷ 0 ∷ 0 ∷ 0 ∷ 0 ∷ [])
     -- I
     ∷ (0 ∷ 32 ∷ 16 ∷ 0 ∷ 0 ∷ 0 ∷ 0 ∷ [])
     -- J

@@ -51,10 +51,11 @@ FoundBytes r stream =
 abbrev pub computed : (r : Rule) (stream : List ℕ) (i : ℕ) → ProtectionField
 computed r stream i = computedField (r .input) i (guardBy (r .input) (inputBlock r stream i))
 
--- Byte k of block i's field is checked: its bit of the check mask is set, and it is no guard byte of an escaped block.
+-- Byte k of block i's field is checked: its bit of the check mask is set, and the block is not escaped. 02, request 2:
+-- "all three fields of an escaped block are skipped". `Escape` says in bytes which blocks are escaped.
 pub record CheckedByte (r : Rule) (stream : List ℕ) (i k : ℕ) : Type 0 where
   pub masked : getD (bytesIn (r .«check_mask»)) k false ≡ true
-  pub unescaped : escaped (r .input) (found r stream i) ≡ true → k < 2 → ⊥
+  pub unescaped : escaped (r .input) (found r stream i) ≡ false
 
 -- Byte k as found is byte k as computed.
 abbrev pub RightByte : (r : Rule) (stream : List ℕ) (i k : ℕ) → Type 0

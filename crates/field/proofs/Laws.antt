@@ -47,7 +47,7 @@ same-bad : (found : ProtectionField) (d : Domain) (i s g g′ : ℕ) → s ≤ 6
 unfolding firstBad computedField
 same-bad found d i s g g′ h = rw (lt-leb 64 s (omega arith))
 
-fewer : (b : Bool) (m : ℕ) → m < 64 → cond b (m % 64) m < 64
+fewer : (b : Bool) (m : ℕ) → m < 64 → cond b 0 m < 64
 fewer true m h = omega arith
 fewer false m h = h
 

@@ -1,4 +1,4 @@
--- Checking a found field (01, "The transfer rule", "Escape" and "Error slot").
+-- Checking a found field (01, "The transfer rule", "Escape" and "Error slot"; 02, request 2).
 --
 --   escapeApplicationTag, escapeReferenceTag    the tags that escape a block
 --   escaped d found                     the found field escapes its block
@@ -37,9 +37,10 @@ escaped d found =
     eqb (found .application) escapeApplicationTag &&
     (escapesByApplication d || (escapesByBoth d && eqb (found .reference) escapeReferenceTag))
 
--- The bytes to check, as a mask: of an escaped block all but the guard's.
+-- The bytes to check, as a mask: of an escaped block none, because "all three fields of an escaped block are skipped"
+-- (02, request 2).
 unfoldable pub checkedMask : (d : Domain) (mask : ℕ) (found : ProtectionField) → ℕ
-checkedMask d mask found = cond (escaped d found) (mask % lowestGuardBit) mask
+checkedMask d mask found = cond (escaped d found) 0 mask
 
 -- Which of the checked bytes differ.
 unfoldable pub differs : (checks : List Bool) (found computed : List ℕ) → List Bool

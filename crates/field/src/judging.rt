@@ -17,7 +17,7 @@ use crate::Tag;
 use crate::bytes::high_half;
 use crate::bytes::low_half;
 
-// True if the found field escapes its block, so that the guard is not checked. The field is read whole, whatever the
+// True if the found field escapes its block, so that no byte of it is checked. The field is read whole, whatever the
 // check mask.
 fn escaped(d: Domain, found: ProtectionField) -> bool
     ensures { λ r. ⌜ r ≡ judging.escaped d found ⌝ }
@@ -96,15 +96,11 @@ pub fn judge(d: Domain, check_mask: u8, i: u64, guard: u16, found: ProtectionFie
     )
 }
 
-// Returns the mask of the bytes to check: the guard of an escaped block is not checked.
+// Returns the mask of the bytes to check: no byte of an escaped block is checked.
 fn checked_mask(d: Domain, mask: u8, found: ProtectionField) -> u8
     ensures { λ r. ⌜ r ≡ judging.checkedMask d mask found ⌝ }
 {
-    if escaped(d, found) {
-        mask % LOWEST_GUARD_BIT
-    } else {
-        mask
-    }
+    if escaped(d, found) { 0 } else { mask }
 }
 
 // Returns the first wrong tag, given the set of differing bytes.

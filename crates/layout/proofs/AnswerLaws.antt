@@ -21,7 +21,7 @@ use Rattle.layout.specs.Answers.{someCountZero, countsBad, malformed, so
 use Rattle.layout.specs.Inner.Steps.{noEntry, Shaped, Fits, Spans, noPiece}
 use Rattle.layout.proofs.PieceLaws.{size-repeats, in-use-from, length-from, getD-from}
 
-or-true : (a : Bool) → a || true ≡ true
+pub or-true : (a : Bool) → a || true ≡ true
 or-true true = refl
 or-true false = refl
 

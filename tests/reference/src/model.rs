@@ -1,6 +1,7 @@
-//! The customer's rule book (paper 01, "Signed block transfers") as a program. It works byte by byte and in exact
-//! numbers, in the paper's order: it is written to be read beside the paper, not to be fast. Words in quotation marks
-//! are the paper's own. Nothing here comes from the library or from its proofs.
+//! The customer's rule book (paper 01, "Signed block transfers") as a program, with request 2 of the customer's change
+//! requests (paper 02). It works byte by byte and in exact numbers, in paper 01's order: it is written to be read
+//! beside the papers, not to be fast. Words in quotation marks are paper 01's own, or paper 02's where that is said.
+//! Nothing here comes from the library or from its proofs.
 
 use std::ops::Range;
 
@@ -107,8 +108,8 @@ impl Domain {
         }
     }
 
-    /// "with flag 2, a block whose application field reads 0xFFFF has its guard not checked; with flag 4 the reference
-    /// field must also read 0xFFFFFFFF". No mask enters: "The field is read whole".
+    /// Whether a block with this field is escaped: "with flag 2, a block whose application field reads 0xFFFF"; "with
+    /// flag 4 the reference field must also read 0xFFFFFFFF". No mask enters: "The field is read whole".
     fn escapes(&self, found: &[u8; FIELD_SIZE]) -> bool {
         let application = number(&found[APPLICATION]) == 0xFFFF;
         let reference = number(&found[REFERENCE]) == 0xFFFF_FFFF;
@@ -262,17 +263,19 @@ impl Rule {
     }
 
     /// A block's first bad field, "in the order guard, application, reference". The error has the whole field, whatever
-    /// the mask, and "the place in the input stream where the block's data begins".
+    /// the mask, and "the place in the input stream where the block's data begins". An escaped block has no bad field:
+    /// "Under flags 2 and 4 all three fields of an escaped block are skipped" (paper 02, request 2; 01 skips its guard
+    /// alone).
     fn bad_field(&self, stream: &[u8], block: usize, size: usize) -> Option<BlockError> {
+        let found = self.found(stream, block, size);
+        if self.input.escapes(&found) {
+            return None;
+        }
         let data = self.data(stream, block, size);
         let computed: [u8; FIELD_SIZE] = std::array::from_fn(|at| self.input.field_byte(data, block, at));
-        let found = self.found(stream, block, size);
-        let guard = (GUARD_ERROR, GUARD);
-        let others = [(APPLICATION_ERROR, APPLICATION), (REFERENCE_ERROR, REFERENCE)];
-        let checked_guard = if self.input.escapes(&found) { None } else { Some(guard) };
-        let mut checked = checked_guard.into_iter().chain(others);
-        let (error_type, bytes) =
-            checked.find(|(_, bytes)| bytes.clone().any(|at| self.is_bad_byte(&computed, &found, at)))?;
+        let fields = [(GUARD_ERROR, GUARD), (APPLICATION_ERROR, APPLICATION), (REFERENCE_ERROR, REFERENCE)];
+        let is_bad = |bytes: &Range<usize>| bytes.clone().any(|at| self.is_bad_byte(&computed, &found, at));
+        let (error_type, bytes) = fields.into_iter().find(|(_, bytes)| is_bad(bytes))?;
         let offset = (block * self.input.unit(size)) as u64;
         let (actual, expected) = (number(&computed[bytes.clone()]), number(&found[bytes]));
         Some(BlockError { error_type, actual, expected, offset })

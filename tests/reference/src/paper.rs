@@ -26,12 +26,14 @@ impl Findings {
 /// Compares all numbers of the papers.
 pub fn findings() -> Findings {
     let mut findings = Findings::default();
-    let parts: [fn(&mut Findings); 11] = [
+    let parts: [fn(&mut Findings); 13] = [
         sbc_3,
         rfc_1071,
         cases_a_to_d,
         cases_e_to_g,
         cases_h_and_i,
+        escaped_blocks,
+        escaped_output,
         cases_j_to_l,
         case_m,
         case_n,
@@ -132,13 +134,64 @@ fn cases_e_to_g(findings: &mut Findings) {
     findings.compare("G", 0xFFFE, checksum_guard(0, &[0xFF, 0xFF, 0x00, 0x01, 0, 0, 0, 0]));
 }
 
-fn cases_h_and_i(findings: &mut Findings) {
-    let domain = Domain { flags: REMAP | APPLICATION_ESCAPE, ..case_a_domain() };
+/// Case A's wire with "first block's application field FF FF and its guard wrong". Its reference field is FF FF FF FF.
+fn case_h_wire() -> [u8; 32] {
     let mut wire = CASE_A_WIRE;
     wire[8..12].copy_from_slice(&[0x00, 0x00, 0xFF, 0xFF]);
-    findings.compare("H", [3, 0x1234, 0xFFFF, 0], check_of(&wire, signature(domain)));
-    let masked = Signature { check_mask: 0xCF, ..signature(domain) };
-    findings.compare("I", [0; 4], check_of(&wire, masked));
+    wire
+}
+
+/// Case A's domain with an escape flag.
+fn case_a_with(escape: u32) -> Domain {
+    Domain { flags: REMAP | escape, ..case_a_domain() }
+}
+
+/// "Case H becomes no error; I stays" (paper 02, request 2).
+fn cases_h_and_i(findings: &mut Findings) {
+    let escape = signature(case_a_with(APPLICATION_ESCAPE));
+    findings.compare("H", [0; 4], check_of(&case_h_wire(), escape));
+    findings.compare("I", [0; 4], check_of(&case_h_wire(), Signature { check_mask: 0xCF, ..escape }));
+}
+
+/// "Under flags 2 and 4 all three fields of an escaped block are skipped" (paper 02, request 2), on case H's wire. The
+/// error of a block that is not escaped is case C's, or that of the wrong guard: 0x8BB7 is computed, 0 is found.
+fn escaped_blocks(findings: &mut Findings) {
+    let by_application = signature(case_a_with(APPLICATION_ESCAPE));
+    let by_both = signature(case_a_with(BOTH_ESCAPE));
+    let wrong_guard = [1, 0x8BB7, 0, 0];
+    let wire = case_h_wire();
+    findings.compare("H without its flag", wrong_guard, check_of(&wire, signature(case_a_domain())));
+    findings.compare("H with flag 4", [0; 4], check_of(&wire, by_both));
+    let mut wrong_reference = wire;
+    wrong_reference[15] = 0xFE;
+    findings.compare("H, reference tag wrong", [0; 4], check_of(&wrong_reference, by_application));
+    findings.compare("H with flag 4, reference tag wrong", wrong_guard, check_of(&wrong_reference, by_both));
+    let mut nearly = wire;
+    nearly[11] = 0xFE;
+    let mut both_damaged = wire;
+    both_damaged[23] = 0x02;
+    for (flag, signature) in [(2, by_application), (4, by_both)] {
+        let nearly = check_of(&nearly, signature);
+        findings.compare(&format!("flag {flag}, application field FF FE"), wrong_guard, nearly);
+        let later = check_of(&both_damaged, signature);
+        findings.compare(&format!("flag {flag}, C's error after H's block"), [1, 0x9CD9, 0, 16], later);
+    }
+}
+
+/// "Copying and generating don't change" (paper 02, request 2): an escaped block's field is copied as it was found, or
+/// generated as for any block.
+fn escaped_output(findings: &mut Findings) {
+    for escape in [APPLICATION_ESCAPE, BOTH_ESCAPE] {
+        let both = Signature { memory: case_a_with(escape), ..signature(case_a_with(escape)) };
+        let sent_with_copy_mask = |copy_mask: u8| {
+            let mut wire = [0; 32];
+            let signature = Signature { attribute_flags: COPY_MASK_GIVEN, copy_mask, ..both };
+            key(32, signature).send(&case_h_wire(), &mut wire, 0, 16);
+            wire
+        };
+        findings.compare("an escaped block's field copied", case_h_wire(), sent_with_copy_mask(0xFF));
+        findings.compare("an escaped block's field generated", CASE_A_WIRE, sent_with_copy_mask(0x00));
+    }
 }
 
 fn cases_j_to_l(findings: &mut Findings) {

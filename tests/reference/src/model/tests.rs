@@ -1,4 +1,4 @@
-//! What the rule book says of packets as a whole, tested on the model with random transfers.
+//! What the papers say of packets as a whole and of escaped blocks, tested on the model with random transfers.
 
 use super::*;
 use crate::cases::random::plans;
@@ -97,4 +97,32 @@ fn refused_calls_change_nothing() {
         }
     }
     assert!(refused > 100);
+}
+
+/// "all three fields of an escaped block are skipped" (paper 02, request 2): whatever the check mask, the error is that
+/// of the same stream with a right field after this block.
+#[test]
+fn an_escaped_block_counts_as_a_right_one() {
+    let mut rng = Rng::new(8);
+    let mut later_errors = 0;
+    for _ in 0..2_000 {
+        let Scene { plan, wire, .. } = scene(&mut rng);
+        let rule = Rule::receive(plan.signature());
+        let escape_flags = rule.input.flags & (APPLICATION_ESCAPE | BOTH_ESCAPE);
+        if !rule.input.signed() || escape_flags == 0 || plan.data_length == 0 {
+            continue;
+        }
+        let size = rule.input.block_size as usize;
+        let block = rng.below(plan.data_length / size as u64) as usize;
+        let field = block * rule.input.unit(size) + size;
+        let (mut escaped, mut right) = (wire.clone(), wire.clone());
+        escaped[field + APPLICATION.start..field + REFERENCE.end].fill(0xFF);
+        for at in 0..FIELD_SIZE {
+            right[field + at] = rule.input.field_byte(rule.data(&wire, block, size), block, at);
+        }
+        let error = rule.error(&escaped, plan.data_length);
+        assert_eq!(error, rule.error(&right, plan.data_length));
+        later_errors += usize::from(error.is_some_and(|error| error.offset as usize > field));
+    }
+    assert!(later_errors > 100, "{later_errors}");
 }
