@@ -1,18 +1,19 @@
 //! Settled cases: the rule book's own, the published vectors, and each rule and answer on both sides of its boundary.
 
 mod answers;
+mod escapes;
 mod packets;
 mod paper;
 mod rules;
 
-use super::{entry, list_layout, Buffers, Case, Plan};
-use crate::model::{Configuration, Domain, Signature, REMAP};
+use super::{entry, list_layout, Buffers, Case, Direction, Plan};
+use crate::model::{Configuration, Domain, Signature, CHECKSUM, REMAP};
 use crate::paper::case_a_domain as dif;
 use crate::script::Call;
 
 /// Returns all settled cases that fit the buffers of README.md.
 pub fn cases() -> Vec<Case> {
-    [paper::cases(), answers::cases(), rules::cases(), packets::cases()].concat()
+    [paper::cases(), answers::cases(), rules::cases(), escapes::cases(), packets::cases()].concat()
 }
 
 /// Returns the settled cases that need larger buffers.
@@ -20,12 +21,34 @@ pub fn large_cases() -> Vec<Case> {
     vec![answers::large_memory(), rules::longest_stream()]
 }
 
+const DIRECTIONS: [Direction; 2] = [Direction::Send, Direction::Receive];
+
 fn unsigned() -> Domain {
     Domain::default()
 }
 
+/// A domain that agrees with case A's in nothing but the block size.
+fn other_dif() -> Domain {
+    Domain {
+        guard_type: CHECKSUM,
+        seed: 0xFFFF,
+        reference_tag: 0x0102_0304,
+        application_tag: 0xABCD,
+        flags: 0,
+        ..dif()
+    }
+}
+
 fn signature(memory: Domain, wire: Domain) -> Signature {
     Signature { memory, wire, check_mask: 0xFF, ..Signature::default() }
+}
+
+/// Returns the signature of a transfer in this direction from the one domain to the other.
+fn directed(direction: Direction, input: Domain, output: Domain) -> Signature {
+    match direction {
+        Direction::Send => signature(input, output),
+        Direction::Receive => signature(output, input),
+    }
 }
 
 /// Returns a transfer at offset 0, over one entry that is just long enough for it.
@@ -45,6 +68,34 @@ fn memory_bytes(at: u64, bytes: &[u8]) -> Vec<Call> {
 
 fn wire_bytes(at: u64, bytes: &[u8]) -> Vec<Call> {
     runs(bytes).into_iter().map(|(from, count, byte)| Call::SetWire { at: at + from, count, byte }).collect()
+}
+
+/// Returns calls that set bytes of the input stream. A send's stream must begin at byte 0 of memory and lie in one
+/// piece, as it does in a transfer of `plan`.
+fn input_bytes(direction: Direction, at: u64, bytes: &[u8]) -> Vec<Call> {
+    match direction {
+        Direction::Send => memory_bytes(at, bytes),
+        Direction::Receive => wire_bytes(at, bytes),
+    }
+}
+
+/// Returns packets of these lengths, from the start of the wire on.
+fn packets(plan: &Plan, lengths: &[u64]) -> Vec<Call> {
+    let starts = lengths.iter().scan(0, |at, length| {
+        *at += length;
+        Some(*at - length)
+    });
+    starts.zip(lengths).map(|(at, &length)| plan.packet(at, length)).collect()
+}
+
+/// Returns calls that receive in two packets, with the cut at every place, each time into memory that is filled anew.
+fn in_two_packets(plan: &Plan) -> Vec<Call> {
+    let stream = plan.wire_stream();
+    let with_cut = |cut: u64| {
+        let open = vec![Call::FillMemory { pattern: cut }, plan.open()];
+        [open, packets(plan, &[cut, stream - cut]), vec![Call::Finish, Call::Check]].concat()
+    };
+    (0..=stream).flat_map(with_cut).collect()
 }
 
 /// Returns the runs of equal bytes: for each, its place, length and byte.

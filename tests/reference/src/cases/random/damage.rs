@@ -32,8 +32,9 @@ fn block_damage(rng: &mut Rng, size: usize) -> Vec<(u64, u8)> {
     let all_ones = |field: Range<usize>| field.map(|at| (at, 0xFF)).collect::<Vec<_>>();
     let escape = all_ones(APPLICATION);
     let whole_escape = all_ones(APPLICATION.start..REFERENCE.end);
-    let field_bytes = match rng.below(12) {
-        0 | 1 => return vec![(rng.below(size as u64), rng.byte())],
+    let data_byte = (rng.below(size as u64), rng.byte());
+    let field_bytes = match rng.below(13) {
+        0 | 1 => return vec![data_byte],
         2 => some_byte(rng, GUARD),
         3 => some_byte(rng, APPLICATION),
         4 => some_byte(rng, REFERENCE),
@@ -44,9 +45,13 @@ fn block_damage(rng: &mut Rng, size: usize) -> Vec<(u64, u8)> {
         // An escape of which one byte is missing.
         9 => [whole_escape, some_byte(rng, GUARD), some_byte(rng, APPLICATION.start..REFERENCE.end)].concat(),
         10 => [all_ones(REFERENCE), some_byte(rng, GUARD)].concat(),
+        // A field that was never written.
+        11 => all_ones(0..FIELD_SIZE),
         _ => (0..FIELD_SIZE).map(|at| (at, rng.byte())).collect(),
     };
-    field_bytes.into_iter().map(|(at, byte)| ((size + at) as u64, byte)).collect()
+    let field_bytes = field_bytes.into_iter().map(|(at, byte)| ((size + at) as u64, byte));
+    let data_bytes = rng.percent(20).then_some(data_byte);
+    field_bytes.chain(data_bytes).collect()
 }
 
 fn some_byte(rng: &mut Rng, field: Range<usize>) -> Vec<(usize, u8)> {

@@ -1,8 +1,7 @@
 //! Receives by packets: cuts at every place, the refusals 8, 12 and 13, and sessions that have ended.
 
 use super::*;
-use crate::cases::{repeated_layout, Direction};
-use crate::model::CHECKSUM;
+use crate::cases::repeated_layout;
 
 pub fn cases() -> Vec<Case> {
     let mut cases = Vec::new();
@@ -42,21 +41,9 @@ fn byte_by_byte(plan: &Plan) -> Case {
     case.then(Call::Check)
 }
 
-/// Receives in two packets, with the cut at every place, each time into memory that is filled anew.
+/// Receives in two packets, with the cut at every place.
 fn every_cut(plan: &Plan) -> Case {
-    let stream = plan.wire_stream();
-    let mut case = prepared("every cut", plan);
-    for cut in 0..=stream {
-        case = case.then_all([
-            Call::FillMemory { pattern: cut },
-            plan.open(),
-            plan.packet(0, cut),
-            plan.packet(cut, stream - cut),
-            Call::Finish,
-            Call::Check,
-        ]);
-    }
-    case
+    prepared("every cut", plan).then_all(in_two_packets(plan))
 }
 
 /// Packets that are refused, for they are too long, have a wrong memory length or both: before each accepted packet, and

@@ -2,7 +2,7 @@
 
 use super::*;
 use crate::cases::repeated_layout;
-use crate::model::{APPLICATION_ESCAPE, CHECKSUM};
+use crate::model::APPLICATION_ESCAPE;
 
 pub fn cases() -> Vec<Case> {
     [a_to_d(), e_to_g(), h_and_i(), j_to_l(), vec![m(), n(), sizes(), sbc_3(), rfc_1071()]].concat()
@@ -81,14 +81,6 @@ fn j_to_l() -> Vec<Case> {
         Case::named("K").then(configure_with(1_043, 1_028)),
         Case::named("L").then(configure_with(1_044, 1_027)),
     ]
-}
-
-fn packets(plan: &Plan, lengths: &[u64]) -> Vec<Call> {
-    let starts = lengths.iter().scan(0, |at, length| {
-        *at += length;
-        Some(*at - length)
-    });
-    starts.zip(lengths).map(|(at, &length)| plan.packet(at, length)).collect()
 }
 
 fn m() -> Case {

@@ -1,25 +1,11 @@
-//! The transfer rule: both directions with every pair of sides, copying, escapes and the error slot.
+//! The transfer rule: both directions with every pair of sides, copying and the error slot.
 
 use super::*;
-use crate::cases::{repeated_layout, Direction};
-use crate::model::{Layout, CHECKSUM, COPY_MASK_GIVEN, MEMORY_LIMIT};
+use crate::cases::repeated_layout;
+use crate::model::{Layout, COPY_MASK_GIVEN, MEMORY_LIMIT};
 
 pub fn cases() -> Vec<Case> {
-    [directions_and_sides(), copying(), escapes(), error_slot()].concat()
-}
-
-const DIRECTIONS: [Direction; 2] = [Direction::Send, Direction::Receive];
-
-/// A domain that agrees with case A's in nothing but the block size.
-fn other_dif() -> Domain {
-    Domain {
-        guard_type: CHECKSUM,
-        seed: 0xFFFF,
-        reference_tag: 0x0102_0304,
-        application_tag: 0xABCD,
-        flags: 0,
-        ..dif()
-    }
+    [directions_and_sides(), copying(), error_slot()].concat()
 }
 
 /// Three layouts of more than 80 bytes: one piece, a list out of order, and two entries whose repeats alternate.
@@ -104,59 +90,11 @@ fn outputs() -> [Domain; 9] {
 fn automatic_masks(direction: Direction) -> Case {
     let mut case = damaged_input("automatic copy mask", &plan(signature(dif(), dif()), 16), direction);
     for (at, output) in outputs().into_iter().enumerate() {
-        let signature = match direction {
-            Direction::Send => signature(dif(), output),
-            Direction::Receive => signature(output, dif()),
-        };
+        let signature = directed(direction, dif(), output);
         let plan = plan(Signature { copy_mask: 0x1F * at as u8, ..signature }, 16);
         case = case.then_all([plan.configure(), plan.transfer(direction)]);
     }
     case.then(Call::Check)
-}
-
-fn escapes() -> Vec<Case> {
-    let mut cases = Vec::new();
-    for flags in [1, 3, 5] {
-        for check_mask in [0xFF, 0xC0, 0xCF, 0x80] {
-            cases.push(escaped_fields(flags, check_mask));
-        }
-    }
-    cases.push(escape_of_the_output());
-    cases
-}
-
-/// Receives a block with a wrong guard, whose tags are an escape, half of one, or none.
-fn escaped_fields(flags: u32, check_mask: u8) -> Case {
-    let reference_tag = 0x0102_0304;
-    let wire = Domain { flags, reference_tag, ..dif() };
-    let plan = plan(Signature { check_mask, ..signature(unsigned(), wire) }, 16);
-    let fields: [(u16, u32); 9] = [
-        (0x1234, reference_tag),
-        (0xFFFF, reference_tag),
-        (0xFFFF, 0xFFFF_FFFF),
-        (0xFFFF, 0xFFFF_FFFE),
-        (0xFFFF, 0x7FFF_FFFF),
-        (0x1234, 0xFFFF_FFFF),
-        (0xFF34, 0xFFFF_FFFF),
-        (0x12FF, 0xFFFF_FFFF),
-        (0xFFFE, 0xFFFF_FFFF),
-    ];
-    let mut case = Case::named("escape").then_all(plan.prepare(Direction::Receive)).then(plan.configure());
-    for (application, reference) in fields {
-        let field = [&[0xBA, 0xD0][..], &application.to_be_bytes(), &reference.to_be_bytes()].concat();
-        case = case.then_all(wire_bytes(8, &field)).then_all([plan.receive(), Call::Check]);
-    }
-    case
-}
-
-/// The output domain alone has an escape flag, so no block escapes.
-fn escape_of_the_output() -> Case {
-    let plan = plan(signature(Domain { flags: REMAP | 2, ..dif() }, dif()), 16);
-    Case::named("escape flag of the output domain")
-        .then_all(plan.prepare(Direction::Receive))
-        .then(plan.configure())
-        .then_all(wire_bytes(8, &[0xBA, 0xD0, 0xFF, 0xFF]))
-        .then_all([plan.receive(), Call::Check])
 }
 
 fn error_slot() -> Vec<Case> {
