@@ -36,7 +36,7 @@ use Rattle.audit.specs.Bursts.{bitAt, Differ, Burst, Guarded, Damaged, s
 use Rattle.audit.specs.Bursts.{ReceiveFindsBurst, ruleA, wireSeventeen, BurstExamples}
 use Rattle.audit.specs.Cases.{wire, fieldA}
 use Rattle.audit.proofs.FieldBytes.{bytes-drop}
-use Rattle.audit.proofs.Below.{two-below}
+use Rattle.audit.proofs.Ranges.{two-below}
 use Rattle.audit.proofs.Errors.{bad-not-good, receive-records}
 use Rattle.audit.proofs.BlockBits.{same-after-end, same-bits, burst-short}
 use Rattle.audit.proofs.Computing.{opened, small, small-bytes, all-below, below-true}

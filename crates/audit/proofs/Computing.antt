@@ -25,7 +25,7 @@ use Rattle.engine.specs.Streams.{blockSize, fieldSize, inputBlock, inputField}
 use Rattle.engine.specs.Transfers.{joined, dataOf, outputBlock, fieldAfter, outputStream, slotOf, errorBy, firstError}
 use Rattle.transfer.specs.Transferring.{sendResult, wireAfterSend, receiveResult, memoryAfterReceive}
 use Rattle.cstructs.proofs.Laws.{both}
-use Rattle.audit.proofs.Below.{none-below, one-more}
+use Rattle.audit.proofs.Ranges.{none-below, next-below}
 
 -- A law with `opened` on its `unfolding` line opens the definitions of configure, of a transfer and of check.
 unfoldable pub opened : Unit {0}
@@ -55,4 +55,4 @@ unfolding all-below
 below-true test zero e = none-below (λ (n : ℕ). test n ≡ true)
 below-true test (suc m) e =
     let t = both (test m) (all-below test m) e in
-    one-more (λ (n : ℕ). test n ≡ true) m (below-true test m (t .1)) (t .0)
+    next-below (λ (n : ℕ). test n ≡ true) m (below-true test m (t .1)) (t .0)

@@ -28,7 +28,7 @@ use Rattle.engine.specs.Streams.{inUnit, inputBlock}
 use Rattle.engine.specs.Transfers.{joined, guardBy, slotOf, errorBy, errorOf, firstError}
 use Rattle.engine.proofs.Units.{errors-last}
 use Rattle.transfer.specs.Transferring.{sendResult, receiveResult}
-use Rattle.audit.proofs.Below.{none-below, one-more, two-below}
+use Rattle.audit.proofs.Ranges.{none-below, next-below, two-below}
 use Rattle.audit.specs.Errors.{found, computed, GoodByte, BadByte, GoodBlock, first, after, valueOf, FirstBadTag, FirstBadBlock, HoldsFirstError, SendFindsFirstError, ReceiveFindsFirstError}
 
 -- ---- a set of eight bytes as a mask: which tags have a byte in it
@@ -107,7 +107,7 @@ module _ (bad : ℕ → Bool) where
   NotBad k = bad k ≡ false
 
   four : NotBad 0 → NotBad 1 → NotBad 2 → NotBad 3 → (k : ℕ) → k < 4 → NotBad k
-  four p q r s = one-more NotBad 3 (one-more NotBad 2 (two-below NotBad p q) r) s
+  four p q r s = next-below NotBad 3 (next-below NotBad 2 (two-below NotBad p q) r) s
 
   module _ (rule seen : ProtectionField) where
     -- The judgement that is chosen by the tests of the eight bytes fits them.
@@ -125,7 +125,7 @@ module _ (bad : ℕ → Bool) where
     by-bytes false false false false false false true h i j k l m n o p = tag-bad Reference 6 (omega arith) (omega arith) o (four i j k l)
     by-bytes false false false false false false false true i j k l m n o p = tag-bad Reference 7 (omega arith) (omega arith) p (four i j k l)
     by-bytes false false false false false false false false i j k l m n o p =
-        all-good (one-more NotBad 7 (one-more NotBad 6 (one-more NotBad 5 (one-more NotBad 4 (four i j k l) m) n) o) p)
+        all-good (next-below NotBad 7 (next-below NotBad 6 (next-below NotBad 5 (next-below NotBad 4 (four i j k l) m) n) o) p)
 
     -- The judgement `firstBad` of the set of bad bytes fits the test of each byte.
     told : Told bad rule seen (firstBad (maskOf 0 (bad 0 ∷ bad 1 ∷ bad 2 ∷ bad 3 ∷ bad 4 ∷ bad 5 ∷ bad 6 ∷ bad 7 ∷ [])) rule seen)
@@ -231,7 +231,7 @@ module _ (r : Rule) (stream : List ℕ) where
       go : (a b : Slot) → SaysAll n a → Says r stream n b → SaysAll (suc n) (keep a b)
       go (Holding e) b (s, f) h = (s, record { block = f .block; among = omega (arith, f .among); before = f .before; tag = f .tag; actual = f .actual; expected = f .expected; offset = f .offset })
       go Empty (Holding e) all (s, p, a, x, o) = (s, record { block = n; among = omega arith; before = all s; tag = p; actual = a; expected = x; offset = o })
-      go Empty Empty all h = λ s. one-more (GoodBlock r stream) n (all s) (h s)
+      go Empty Empty all h = λ s. next-below (GoodBlock r stream) n (all s) (h s)
 
   -- A block with a bad tag is not good.
   pub bad-not-good : (i : ℕ) (p : Tag) → FirstBadTag r stream i p → GoodBlock r stream i → ⊥

@@ -21,8 +21,8 @@ use Rattle.engine.specs.declared.Rule.{Rule}
 use Rattle.engine.specs.Streams.{inBlock, inUnit}
 use Rattle.cstructs.proofs.Laws.{both}
 use Rattle.audit.specs.Errors.{found}
-use Rattle.audit.specs.Escape.{AllOnes, Escapes, CheckedByEscape, NeverWritten, UnwrittenHolds, EscapeShut}
-use Rattle.audit.proofs.Below.{one-more}
+use Rattle.audit.specs.Escape.{AllOnes, EscapedBlock, CheckedByEscape, EscapedIsGood, NeverWrittenIsGood, UnwrittenHolds, EscapeShut}
+use Rattle.audit.proofs.Ranges.{next-below}
 use Rattle.audit.proofs.Computing.{opened}
 use Rattle.audit.proofs.Errors.{apart}
 use Rattle.audit.proofs.FieldBytes.{found-bytes}
@@ -34,9 +34,9 @@ module _ (r : Rule) (stream : List ℕ) (b : Bytes stream) (s : signed (r .input
   field : ProtectionField
   field = found r stream i
 
-  -- The property `One k` says that byte k of the field is FF, if it is not a byte of the guard.
-  abbrev One : ℕ → Type 0
-  One k = 2 ≤ k → getD stream (i * inUnit r + inBlock r + k) 0 ≡ 0xFF
+  -- The property `TagByteIsFF k` says that byte k of the field is FF if it is a byte of a tag after the guard.
+  abbrev TagByteIsFF : ℕ → Type 0
+  TagByteIsFF k = 2 ≤ k → getD stream (i * inUnit r + inBlock r + k) 0 ≡ 0xFF
 
   -- Byte k of the field is the stream's own.
   byte : (k : ℕ) → k < 8 → getD (bytesOf field) k 0 ≡ getD stream (i * inUnit r + inBlock r + k) 0
@@ -44,20 +44,20 @@ module _ (r : Rule) (stream : List ℕ) (b : Bytes stream) (s : signed (r .input
   byte = found-bytes r stream b s i
 
   -- If the application tag is 0xFFFF, its two bytes are FF.
-  application-ones : field .application ≡ 0xFFFF → (k : ℕ) → k < 4 → One k
+  application-ones : field .application ≡ 0xFFFF → (k : ℕ) → k < 4 → TagByteIsFF k
   unfolding bytesOf
   application-ones a =
-      one-more One 3 (one-more One 2 (λ k h l. absurd (omega arith)) (λ l. omega (arith, a, byte 2 (omega arith))))
+      next-below TagByteIsFF 3 (next-below TagByteIsFF 2 (λ k h l. absurd (omega arith)) (λ l. omega (arith, a, byte 2 (omega arith))))
       (λ l. omega (arith, a, byte 3 (omega arith)))
 
   -- If the reference tag is 0xFFFFFFFF too, so are the six bytes of both tags.
-  tags-ones : field .application ≡ 0xFFFF → field .reference ≡ 0xFFFFFFFF → (k : ℕ) → k < 8 → One k
+  tags-ones : field .application ≡ 0xFFFF → field .reference ≡ 0xFFFFFFFF → (k : ℕ) → k < 8 → TagByteIsFF k
   unfolding bytesOf
   tags-ones a f =
-      one-more One 7
-      (one-more One 6
-      (one-more One 5
-      (one-more One 4 (application-ones a) (λ l. omega (arith, f, byte 4 (omega arith))))
+      next-below TagByteIsFF 7
+      (next-below TagByteIsFF 6
+      (next-below TagByteIsFF 5
+      (next-below TagByteIsFF 4 (application-ones a) (λ l. omega (arith, f, byte 4 (omega arith))))
       (λ l. omega (arith, f, byte 5 (omega arith))))
       (λ l. omega (arith, f, byte 6 (omega arith))))
       (λ l. omega (arith, f, byte 7 (omega arith)))
@@ -75,7 +75,7 @@ module _ (r : Rule) (stream : List ℕ) (b : Bytes stream) (s : signed (r .input
       omega (arith, byte 4 (omega arith), byte 5 (omega arith), byte 6 (omega arith), byte 7 (omega arith), h 4 (omega arith) (omega arith), h 5 (omega arith) (omega arith), h 6 (omega arith) (omega arith), h 7 (omega arith) (omega arith))
 
   -- A block with the bytes of an escape is one that `escaped` finds escaped.
-  bytes-escaped : Escapes r stream i → escaped (r .input) (found r stream i) ≡ true
+  bytes-escaped : EscapedBlock r stream i → escaped (r .input) (found r stream i) ≡ true
   unfolding escaped field
   bytes-escaped (inl (p, h)) = rw (eq-eqb _ 0xFFFF (ones-application 4 (omega arith) h), p)
   bytes-escaped (inr (p, h)) =
@@ -83,14 +83,14 @@ module _ (r : Rule) (stream : List ℕ) (b : Bytes stream) (s : signed (r .input
       (or-true (escapesByApplication (r .input)))
 
   -- A block that `escaped` finds escaped has the bytes of an escape.
-  escaped-bytes : escaped (r .input) (found r stream i) ≡ true → Escapes r stream i
+  escaped-bytes : escaped (r .input) (found r stream i) ≡ true → EscapedBlock r stream i
   unfolding escaped field
   escaped-bytes e =
       let t = both _ _ e in
       go (eqb-true _ _ (t .0)) (escapesByApplication (r .input)) refl (t .1)
     where
       go : field .application ≡ 0xFFFF → (a : Bool) → escapesByApplication (r .input) ≡ a
-          → a || (escapesByBoth (r .input) && eqb (field .reference) 0xFFFFFFFF) ≡ true → Escapes r stream i
+          → a || (escapesByBoth (r .input) && eqb (field .reference) 0xFFFFFFFF) ≡ true → EscapedBlock r stream i
       go t true p h = inl (p, λ k l m. application-ones t k m l)
       go t false p h =
           let u = both _ _ h in
@@ -103,16 +103,20 @@ checked-by-escape r stream b s i k = (
   λ (m, n). record { masked = m; unescaped = go n (escaped (r .input) (found r stream i)) refl },
 )
   where
-    go : (Escapes r stream i → ⊥) → (e : Bool) → escaped (r .input) (found r stream i) ≡ e → escaped (r .input) (found r stream i) ≡ false
+    go : (EscapedBlock r stream i → ⊥) → (e : Bool) → escaped (r .input) (found r stream i) ≡ e → escaped (r .input) (found r stream i) ≡ false
     go n true e = absurd (n (escaped-bytes r stream b s i e))
     go n false e = e
 
+-- An escaped block is good, because none of its bytes is checked.
+pub escaped-is-good : (r : Rule) (stream : List ℕ) → EscapedIsGood r stream
+escaped-is-good r stream b s i e k l c = absurd (checked-by-escape r stream b s i k .0 c .1 e)
+
 -- A unit whose field is eight bytes FF is good under either escape flag.
-pub never-written : (r : Rule) (stream : List ℕ) → NeverWritten r stream
-never-written r stream b s flags i h k l c =
-    absurd (apart (sym (c .unescaped) ∙ bytes-escaped r stream b s i (go (escapesByApplication (r .input)) refl flags)))
+pub never-written-is-good : (r : Rule) (stream : List ℕ) → NeverWrittenIsGood r stream
+never-written-is-good r stream b s flags i h =
+    escaped-is-good r stream b s i (go (escapesByApplication (r .input)) refl flags)
   where
-    go : (by : Bool) → escapesByApplication (r .input) ≡ by → by || escapesByBoth (r .input) ≡ true → Escapes r stream i
+    go : (by : Bool) → escapesByApplication (r .input) ≡ by → by || escapesByBoth (r .input) ≡ true → EscapedBlock r stream i
     go true p f = inl (p, λ k l m. h k (omega arith) (omega arith))
     go false p f = inr (f, λ k l m. h k (omega arith) m)
 

@@ -1,4 +1,4 @@
-pub mod Below
+pub mod Ranges
 pub mod Computing
 pub mod Cases
 pub mod Errors

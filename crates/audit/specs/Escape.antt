@@ -1,11 +1,13 @@
 -- The escape: which blocks are escaped, that no byte of theirs is checked, and which blocks never are.
 --
--- 02, request 2: "Under flags 2 and 4 all three fields of an escaped block are skipped." For a rule and an input stream:
+-- 02, request 2: "Under flags 2 and 4 all three fields of an escaped block are skipped." For a rule and an input
+-- stream:
 --
 --   AllOnes r stream i from end      bytes `from` to `end` - 1 of the field after block i are FF
---   Escapes r stream i               block i is escaped, by the input domain's flags and the bytes of its field
+--   EscapedBlock r stream i          block i is escaped, by the input domain's flags and the bytes of its field
 --   CheckedByEscape r stream         a byte is checked exactly if its check bit is set and its block is not escaped
---   NeverWritten r stream            a unit with a field of FF bytes is good under either escape flag
+--   EscapedIsGood r stream           an escaped block is good
+--   NeverWrittenIsGood r stream      a unit with a field of FF bytes is good under either escape flag
 --   wireUnwritten, unwritten         a wire of FF bytes, received under each guard type with and without an escape flag
 --   UnwrittenHolds                   only without an escape flag it is an error
 --
@@ -44,8 +46,8 @@ AllOnes r stream i from end =
 
 -- Block i is escaped: by flag 2 if the application tag is FF FF, by flag 4 if the reference tag is FF FF FF FF too. The
 -- flags are those of the input domain, and no mask plays a part.
-abbrev pub Escapes : (r : Rule) (stream : List ℕ) (i : ℕ) → Type 0
-Escapes r stream i =
+abbrev pub EscapedBlock : (r : Rule) (stream : List ℕ) (i : ℕ) → Type 0
+EscapedBlock r stream i =
     ((escapesByApplication (r .input) ≡ true) × AllOnes r stream i (first Application) (after Application))
     ⊎ ((escapesByBoth (r .input) ≡ true) × AllOnes r stream i (first Application) (after Reference))
 
@@ -55,12 +57,17 @@ abbrev pub CheckedByEscape : (r : Rule) (stream : List ℕ) → Type 0
 CheckedByEscape r stream =
     Bytes stream → signed (r .input) ≡ true → (i k : ℕ)
     → CheckedByte r stream i k
-    ↔ ((getD (bytesIn (r .«check_mask»)) k false ≡ true) × (Escapes r stream i → ⊥))
+    ↔ ((getD (bytesIn (r .«check_mask»)) k false ≡ true) × (EscapedBlock r stream i → ⊥))
 
--- A unit that was never written, as Linux and QEMU know it: all bytes of its field are FF. Under either escape flag its
--- block is good, whatever its data, the guard type, the configured tags and the check mask.
-abbrev pub NeverWritten : (r : Rule) (stream : List ℕ) → Type 0
-NeverWritten r stream =
+-- An escaped block is good, whatever its data, its guard, the guard type, the configured tags and the check mask.
+abbrev pub EscapedIsGood : (r : Rule) (stream : List ℕ) → Type 0
+EscapedIsGood r stream =
+    Bytes stream → signed (r .input) ≡ true → (i : ℕ) → EscapedBlock r stream i → GoodBlock r stream i
+
+-- So is a unit that was never written, under either escape flag: all bytes of its field are FF. Linux's block layer and
+-- QEMU's NVMe device don't check such units either.
+abbrev pub NeverWrittenIsGood : (r : Rule) (stream : List ℕ) → Type 0
+NeverWrittenIsGood r stream =
     Bytes stream → signed (r .input) ≡ true → escapesByApplication (r .input) || escapesByBoth (r .input) ≡ true
     → (i : ℕ) → AllOnes r stream i 0 fieldBytes → GoodBlock r stream i
 
@@ -74,8 +81,9 @@ wireUnwritten = replicate 32 0xFF
 abbrev pub unwritten : (guardType flags : ℕ) → List ℕ
 unwritten guardType flags = received (domain guardType 0 flags) 0xFF wireUnwritten
 
--- There is no error under flag 2 (with remap 3) and under flag 4 (with remap 5), for either guard type. With remap alone
--- the guard of the first block is an error: the CRC of its data is 0x625F and its checksum 0, and 0xFFFF was found.
+-- There is no error under flag 2 (with remap 3) and under flag 4 (with remap 5), for either guard type. With remap
+-- alone the guard of the first block is an error: the CRC of its data is 0x625F and its checksum 0, and 0xFFFF was
+-- found.
 pub record UnwrittenHolds : Type 0 where
   pub crcByApplication : unwritten 0 3 ≡ 0 ∷ 32 ∷ 16 ∷ 0 ∷ 0 ∷ 0 ∷ 0 ∷ []
   pub crcByBoth : unwritten 0 5 ≡ 0 ∷ 32 ∷ 16 ∷ 0 ∷ 0 ∷ 0 ∷ 0 ∷ []

@@ -29,7 +29,7 @@ fn bad_domain(d: Domain) -> bool
     (T10_DIF < d.kind) | (field::signed(d) & (size | (guard | (seed | flags))))
 }
 
-// True if answer 2 applies to this domain: every block with its configured application tag would be escaped.
+// True if answer 2 applies to this domain: a block with its configured application tag could be escaped.
 fn escapes_always(d: Domain) -> bool
     ensures { λ r. ⌜ r ≡ answers.escapesAlways d ⌝ }
 {
