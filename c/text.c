@@ -12,7 +12,7 @@ const char *garoalva_answer_text(uint64_t answer) {
     case GAROALVA_ANSWER_BAD_DOMAIN:
         return "a domain's kind, block size, guard type, seed or flags, or the attribute flags, are not valid";
     case GAROALVA_ANSWER_ESCAPE_TAG:
-        return "a domain with an escape flag has the application tag 0xFFFF, so that its guards would go unchecked";
+        return "a domain with an escape flag has the application tag 0xFFFF, so that its blocks could go unchecked";
     case GAROALVA_ANSWER_COPY_MASK:
         return "a copy mask is given, but the two sides are not both signed with one block size";
     case GAROALVA_ANSWER_BLOCK_SIZES:

@@ -26,7 +26,7 @@ pub struct T10Dif {
     pub reference_tag: u32,
     /// Whether the reference tag counts up by 1 with each block; 0 follows 0xFFFFFFFF.
     pub remap: bool,
-    /// When a block's guard is not checked.
+    /// Which blocks are not checked at all.
     pub escape: Escape,
 }
 
@@ -48,14 +48,16 @@ pub enum Seed {
     Ones,
 }
 
-/// When a block's guard is not checked. Its application tag and reference tag are checked all the same.
+/// Which blocks are escaped. No byte of an escaped block's field is checked. Storage marks blocks that were never
+/// written in this way, with a field of FF bytes. The tags in the field are read whole, whatever the check mask is.
+/// Only the escape of the input side counts, and it does not change what is copied or generated.
 #[derive(Clone, Copy, Debug, PartialEq, Eq)]
 pub enum Escape {
-    /// The guard is always checked.
+    /// No block is escaped.
     Never,
-    /// The guard is not checked if the application tag found is 0xFFFF.
+    /// A block is escaped if the application tag found in its field is 0xFFFF.
     Application,
-    /// The guard is not checked if the application tag found is 0xFFFF and the reference tag found is 0xFFFFFFFF.
+    /// A block is escaped if the application tag found in its field is 0xFFFF and the reference tag is 0xFFFFFFFF.
     ApplicationAndReference,
 }
 

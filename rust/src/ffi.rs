@@ -200,7 +200,7 @@ assert_layouts! {
 }
 
 /// The symbol of a function that takes or returns a struct: its name and the struct version, which is the N of the
-/// crate's version 0.N.0. A library with other structs has other symbols, so this crate does not link with it.
+/// crate's version 0.N.P. A library with other structs has other symbols, so this crate does not link with it.
 macro_rules! symbol {
     ($name:literal) => {
         concat!($name, "_v", env!("CARGO_PKG_VERSION_MINOR"))

@@ -109,7 +109,7 @@ impl Display for Refusal {
                 "a domain's kind, block size, guard type, seed or flags, or the attribute flags, are not valid"
             }
             Refusal::EscapeTag => {
-                "a domain with an escape flag has the application tag 0xFFFF, so that its guards would go unchecked"
+                "a domain with an escape flag has the application tag 0xFFFF, so that its blocks could go unchecked"
             }
             Refusal::CopyMask => "a copy mask is given, but the two sides are not both signed with one block size",
             Refusal::BlockSizes => "the two sides are signed with different block sizes",

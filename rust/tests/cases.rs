@@ -64,15 +64,42 @@ fn case_d_leaves_the_guard_out() {
 }
 
 #[test]
-fn case_h_is_an_application_error() {
+fn case_h_has_no_error() {
     let (wire, configuration) = escaped();
+    assert_eq!(received(&configuration, &wire), None);
+}
+
+#[test]
+fn case_h_without_the_escape_is_a_guard_error() {
+    let (wire, _) = escaped();
     let error = BlockError {
-        tag: Tag::Application,
-        actual: 0x1234,
-        expected: 0xFFFF,
+        tag: Tag::Guard,
+        actual: 0x8BB7,
+        expected: 0xDEAD,
         offset: 0,
     };
-    assert_eq!(received(&configuration, &wire), Some(error));
+    assert_eq!(received(&case_a(), &wire), Some(error));
+}
+
+#[test]
+fn a_wire_that_was_never_written_has_no_error_under_an_escape() {
+    let escapes = [
+        (Escape::Never, Some(Tag::Guard)),
+        (Escape::Application, None),
+        (Escape::ApplicationAndReference, None),
+    ];
+    for guard in [Guard::Crc, Guard::Checksum] {
+        for (escape, tag) in escapes {
+            let domain = T10Dif {
+                guard,
+                escape,
+                ..signed()
+            };
+            let configuration = configuration(Layout::contiguous(16), Domain::None, domain.into());
+            let error = received(&configuration, &[0xFF; 32]);
+            assert_eq!(error.map(|error| error.tag), tag, "{guard:?}, {escape:?}");
+        }
+    }
 }
 
 #[test]

@@ -1,4 +1,4 @@
-/* One version everywhere: 0.N.0, where N is the struct version in the seals of keys and sessions. */
+/* One version everywhere: 0.N.P, where N is the struct version in the seals of keys and sessions. */
 #include "tests.h"
 #include <stdio.h>
 #include <string.h>
@@ -12,11 +12,11 @@ void test_versions(int count, char **versions) {
     CHECK(opened.answer == GAROALVA_ANSWER_DONE);
     CHECK(struct_version(garoalva_fresh().seal) == GAROALVA_STRUCT_VERSION);
     CHECK(struct_version(opened.session.seal) == GAROALVA_STRUCT_VERSION);
-    char version[16];
-    snprintf(version, sizeof version, "0.%d.0", GAROALVA_STRUCT_VERSION);
-    CHECK(strcmp(version, GAROALVA_VERSION) == 0);
-    CHECK(strcmp(version, garoalva_version()) == 0);
+    char start[16];
+    snprintf(start, sizeof start, "0.%d.", GAROALVA_STRUCT_VERSION);
+    CHECK(strncmp(start, GAROALVA_VERSION, strlen(start)) == 0);
+    CHECK(strcmp(GAROALVA_VERSION, garoalva_version()) == 0);
     CHECK(count > 0);
     for (int i = 0; i < count; i++)
-        CHECK(strcmp(version, versions[i]) == 0);
+        CHECK(strcmp(GAROALVA_VERSION, versions[i]) == 0);
 }
