@@ -74,7 +74,7 @@ extern "C" {
 #endif
 
 /*
- * The version of this header: 0.N.P, where N is the struct version and P counts changes of rules that leave it.
+ * The version of this header: 0.N.P, where N is the struct version and P counts changes of rules that keep N.
  * garoalva_version returns the library's.
  */
 #define GAROALVA_VERSION "0.2.1"

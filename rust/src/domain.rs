@@ -48,9 +48,9 @@ pub enum Seed {
     Ones,
 }
 
-/// Which blocks are escaped. No byte of an escaped block's field is checked. Storage marks blocks that were never
-/// written in this way, with a field of FF bytes. The tags in the field are read whole, whatever the check mask is.
-/// Only the escape of the input side counts, and it does not change what is copied or generated.
+/// Which blocks are escaped. No byte of an escaped block's field is checked. Storage devices mark blocks that were
+/// never written in this way, with a field of FF bytes. The tags in the field are read whole, whatever the check mask
+/// is. Only the escape of the input side counts, and it does not change what is copied or generated.
 #[derive(Clone, Copy, Debug, PartialEq, Eq)]
 pub enum Escape {
     /// No block is escaped.

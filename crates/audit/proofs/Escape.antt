@@ -50,7 +50,7 @@ module _ (r : Rule) (stream : List ℕ) (b : Bytes stream) (s : signed (r .input
       next-below TagByteIsFF 3 (next-below TagByteIsFF 2 (λ k h l. absurd (omega arith)) (λ l. omega (arith, a, byte 2 (omega arith))))
       (λ l. omega (arith, a, byte 3 (omega arith)))
 
-  -- If the reference tag is 0xFFFFFFFF too, so are the six bytes of both tags.
+  -- If the reference tag is 0xFFFFFFFF too, all six bytes of both tags are FF.
   tags-ones : field .application ≡ 0xFFFF → field .reference ≡ 0xFFFFFFFF → (k : ℕ) → k < 8 → TagByteIsFF k
   unfolding bytesOf
   tags-ones a f =

@@ -9,7 +9,7 @@
 --   EscapedIsGood r stream           an escaped block is good
 --   NeverWrittenIsGood r stream      a unit with a field of FF bytes is good under either escape flag
 --   wireUnwritten, unwritten         a wire of FF bytes, received under each guard type with and without an escape flag
---   UnwrittenHolds                   only without an escape flag it is an error
+--   UnwrittenHolds                   it is an error only without an escape flag
 --
 -- The order's fault "One site used it as its ordinary tag, and eleven weeks of blocks went unchecked" cannot happen:
 -- under an accepted configuration a block with the configured application tag is never escaped, whatever the escape
@@ -64,7 +64,7 @@ abbrev pub EscapedIsGood : (r : Rule) (stream : List ℕ) → Type 0
 EscapedIsGood r stream =
     Bytes stream → signed (r .input) ≡ true → (i : ℕ) → EscapedBlock r stream i → GoodBlock r stream i
 
--- So is a unit that was never written, under either escape flag: all bytes of its field are FF. Linux's block layer and
+-- A unit that was never written, with a field of FF bytes, is good under either escape flag. Linux's block layer and
 -- QEMU's NVMe device don't check such units either.
 abbrev pub NeverWrittenIsGood : (r : Rule) (stream : List ℕ) → Type 0
 NeverWrittenIsGood r stream =
@@ -81,9 +81,9 @@ wireUnwritten = replicate 32 0xFF
 abbrev pub unwritten : (guardType flags : ℕ) → List ℕ
 unwritten guardType flags = received (domain guardType 0 flags) 0xFF wireUnwritten
 
--- There is no error under flag 2 (with remap 3) and under flag 4 (with remap 5), for either guard type. With remap
--- alone the guard of the first block is an error: the CRC of its data is 0x625F and its checksum 0, and 0xFFFF was
--- found.
+-- There is no error under flag 2 (flags 3, with remap) and under flag 4 (flags 5), for either guard type. Without an
+-- escape (flags 1) the guard of the first block is an error: the CRC of its data is 0x625F and its checksum 0, and
+-- 0xFFFF was found.
 pub record UnwrittenHolds : Type 0 where
   pub crcByApplication : unwritten 0 3 ≡ 0 ∷ 32 ∷ 16 ∷ 0 ∷ 0 ∷ 0 ∷ 0 ∷ []
   pub crcByBoth : unwritten 0 5 ≡ 0 ∷ 32 ∷ 16 ∷ 0 ∷ 0 ∷ 0 ∷ 0 ∷ []
