@@ -43,7 +43,8 @@ static uint64_t total_of(const garoalva_layout *l, uint64_t memory_length) {
 }
 
 static bool error_valid(const garoalva_error *e) {
-    return e->type == 0 ? (e->actual | e->expected | e->offset) == 0 : e->type <= GAROALVA_ERROR_APPLICATION;
+    return e->type == 0 ? (e->actual | e->expected | e->offset | e->differing) == 0
+                        : e->type <= GAROALVA_ERROR_APPLICATION;
 }
 
 /* Whether this is a side of an unsigned session, in which each byte is a block. */
@@ -54,7 +55,7 @@ static bool session_valid(const garoalva_session *s, uint64_t total) {
     const garoalva_key *k = &s->key;
     const garoalva_signature *g = &k->signature;
     return s->seal == session_seal && k->seal == key_seal && k->configured == 1 && total > 0 && g->memory.kind == 0 &&
-           g->wire.kind == 0 && g->attribute_flags == 0 && g->spare == 0 && k->spare == 0 && error_valid(&k->error) &&
+           g->wire.kind == 0 && g->attribute_flags == 0 && g->spare == 0 && s->spare == 0 && error_valid(&k->error) &&
            error_valid(&s->error) && side_valid(&s->input) && side_valid(&s->output) && s->data_length <= total &&
            s->offset <= total - s->data_length && s->input.index <= s->data_length && s->output.index == s->input.index;
 }

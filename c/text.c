@@ -48,18 +48,26 @@ const char *garoalva_answer_text(uint64_t answer) {
     }
 }
 
-/* Returns the name of the bad guard or tag, or null for a type that is none. */
-static const char *tag_name(uint32_t type) {
-    switch (type) {
-    case GAROALVA_ERROR_GUARD:
-        return "guard";
-    case GAROALVA_ERROR_REFERENCE:
-        return "reference tag";
-    case GAROALVA_ERROR_APPLICATION:
-        return "application tag";
-    default:
-        return NULL;
-    }
+/* The guard and the tags by error type: the name of each, its first byte in a field, and how many bytes it has. */
+static const struct tag {
+    const char *name;
+    int first;
+    int bytes;
+} tags[] = {[GAROALVA_ERROR_GUARD] = {"guard", 0, 2},
+            [GAROALVA_ERROR_REFERENCE] = {"reference tag", 4, 4},
+            [GAROALVA_ERROR_APPLICATION] = {"application tag", 2, 2}};
+
+/* The words for a set of up to four bytes: 8 stands for byte 0, 4 for byte 1, 2 for byte 2 and 1 for byte 3. */
+static const char *const byte_sets[] = {
+    "no checked byte",       "checked byte 3",           "checked byte 2",           "checked bytes 2 and 3",
+    "checked byte 1",        "checked bytes 1 and 3",    "checked bytes 1 and 2",    "checked bytes 1, 2 and 3",
+    "checked byte 0",        "checked bytes 0 and 3",    "checked bytes 0 and 2",    "checked bytes 0, 2 and 3",
+    "checked bytes 0 and 1", "checked bytes 0, 1 and 3", "checked bytes 0, 1 and 2", "checked bytes 0, 1, 2 and 3"};
+
+/* Returns the tag's bytes in a mask, as a number of byte_sets. */
+static uint32_t byte_set(uint32_t mask, const struct tag *tag) {
+    uint32_t from_first = mask << tag->first & 0xFF;
+    return from_first >> (8 - tag->bytes) << (4 - tag->bytes);
 }
 
 size_t garoalva_error_text(garoalva_error error, char *text, size_t size) {
@@ -67,12 +75,15 @@ size_t garoalva_error_text(garoalva_error error, char *text, size_t size) {
     size_t room = size < GAROALVA_ERROR_TEXT_SIZE ? size : GAROALVA_ERROR_TEXT_SIZE;
     if (error.type == GAROALVA_ERROR_NONE)
         return (size_t)snprintf(text, room, "no error");
-    const char *tag = tag_name(error.type);
-    if (tag == NULL)
+    if (error.type > GAROALVA_ERROR_APPLICATION)
         return (size_t)snprintf(text, room, "unknown error type");
-    int digits = error.type == GAROALVA_ERROR_REFERENCE ? 8 : 4;
+    const struct tag *tag = &tags[error.type];
+    int digits = 2 * tag->bytes;
+    uint32_t set = byte_set(error.differing, tag);
+    int is_one_or_none = (set & (set - 1)) == 0;
     return (size_t)snprintf(text, room,
                             "bad %s in the block at byte %" PRIu32 " of the input stream: its field says 0x%0*" PRIX32
-                            ", the rule gives 0x%0*" PRIX32,
-                            tag, error.offset, digits, error.expected, digits, error.actual);
+                            ", the rule gives 0x%0*" PRIX32 "; %s of the %s differ%s",
+                            tag->name, error.offset, digits, error.expected, digits, error.actual, byte_sets[set],
+                            tag->name, is_one_or_none ? "s" : "");
 }

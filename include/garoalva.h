@@ -77,8 +77,8 @@ extern "C" {
  * The version of this header: 0.N.P, where N is the struct version and P counts changes of rules that keep N.
  * garoalva_version returns the library's.
  */
-#define GAROALVA_VERSION "0.2.1"
-#define GAROALVA_STRUCT_VERSION 2 /* the lowest byte of each seal, and part of symbols, so digits alone */
+#define GAROALVA_VERSION "0.3.0"
+#define GAROALVA_STRUCT_VERSION 3 /* the lowest byte of each seal, and part of symbols, so digits alone */
 
 /*
  * The symbol of a function that takes or returns a struct is its name, _v and the struct version. So a program that was
@@ -105,7 +105,7 @@ extern "C" {
 #define GAROALVA_MEMORY_LIMIT 16777216u /* bytes of memory, at most */
 #define GAROALVA_ENTRIES 16u            /* entries of a layout, at most */
 #define GAROALVA_PIECES 1024u           /* pieces of a layout (its entries times its repeat), at most */
-#define GAROALVA_ERROR_TEXT_SIZE 128u   /* bytes that hold any text of garoalva_error_text and its final 0 */
+#define GAROALVA_ERROR_TEXT_SIZE 192u   /* bytes that hold any text of garoalva_error_text and its final 0 */
 
 /* garoalva_domain.kind */
 enum {
@@ -129,7 +129,10 @@ enum {
 /* garoalva_signature.attribute_flags */
 enum { GAROALVA_COPY_MASK_GIVEN = 1 /* copy_mask says which bytes are copied */ };
 
-/* check_mask and copy_mask have a bit for each byte of a field: bit 7 for the first byte, bit 0 for the last. */
+/*
+ * check_mask, copy_mask and garoalva_error.differing have a bit for each byte of a field: bit 7 for the first byte, bit
+ * 0 for the last.
+ */
 enum { GAROALVA_MASK_GUARD = 0xC0, GAROALVA_MASK_APPLICATION = 0x30, GAROALVA_MASK_REFERENCE = 0x0F };
 
 /* garoalva_error.type */
@@ -221,13 +224,18 @@ typedef struct {
 
 /*
  * The first error of a key or session: the first bad block, and in it the first bad one of guard, application tag and
- * reference tag, in this order. All four numbers are 0 if there is no error.
+ * reference tag, in this order. All five numbers are 0 if there is no error.
+ *
+ * `differing` says which bytes of that guard or tag are in check_mask and differ. Its bits are among those of
+ * GAROALVA_MASK_GUARD, GAROALVA_MASK_APPLICATION or GAROALVA_MASK_REFERENCE, as `type` says, and at least one is set. A
+ * byte that is not checked has no bit, even if it differs. Nor has a byte of another tag.
  */
 typedef struct {
-    uint32_t type;     /* GAROALVA_ERROR_.. */
-    uint32_t actual;   /* the whole guard or tag that the input domain's rule computes for the block */
-    uint32_t expected; /* the whole guard or tag that was found in the field after the block */
-    uint32_t offset;   /* where the block's data begins in the input stream */
+    uint32_t type;      /* GAROALVA_ERROR_.. */
+    uint32_t actual;    /* the whole guard or tag that the input domain's rule computes for the block */
+    uint32_t expected;  /* the whole guard or tag that was found in the field after the block */
+    uint32_t offset;    /* where the block's data begins in the input stream */
+    uint32_t differing; /* the checked bytes of the guard or tag that differ: bits of GAROALVA_MASK_.. */
 } garoalva_error;
 
 /* A key. Its fields belong to the library. */
@@ -238,7 +246,6 @@ typedef struct {
     garoalva_signature signature;
     uint32_t configured;
     garoalva_error error;
-    uint32_t spare;
 } garoalva_key;
 
 /* How far a session is in one of its streams: the block in progress, the bytes of it that are done, and its guard. */
@@ -260,6 +267,7 @@ typedef struct {
     garoalva_side output;
     garoalva_error error;
     uint8_t held[GAROALVA_FIELD_SIZE];
+    uint32_t spare;
 } garoalva_session;
 
 /* The results. Where a comment says "if done", the answer is GAROALVA_ANSWER_DONE; any other answer is a refusal. */
@@ -279,6 +287,7 @@ typedef struct {
     garoalva_key key; /* go on with this one */
     uint64_t answer;
     garoalva_error error; /* all 0 if there was none, or if refused */
+    uint32_t spare;       /* 0 */
 } garoalva_check_result;
 
 typedef struct {
@@ -482,8 +491,10 @@ const char *garoalva_answer_text(uint64_t answer);
  * text           buffer for the text; may be null if size is 0
  * size           bytes of the buffer; GAROALVA_ERROR_TEXT_SIZE is always enough
  *
- * Writes the text and a final 0, at most size bytes in all, as snprintf does: a text that is too long is cut. The text
- * of type 0 is "no error", and that of a type above 3 "unknown error type".
+ * Writes the text and a final 0, at most size bytes in all, as snprintf does: a text that is too long is cut. It says
+ * where the block is, what was found, what the rule computes, and which checked bytes differ: the bytes of the guard or
+ * tag are counted from 0, high byte first. The text of type 0 is "no error", and that of a type above 3 "unknown error
+ * type".
  *
  * Returns the length of the whole text without its final 0. The text was cut if size is not greater.
  */
@@ -531,11 +542,12 @@ GAROALVA_SIZE(configuration, 320);
 GAROALVA_AT(configuration, layout, 0);
 GAROALVA_AT(configuration, signature, 264);
 
-GAROALVA_SIZE(error, 16);
+GAROALVA_SIZE(error, 20);
 GAROALVA_AT(error, type, 0);
 GAROALVA_AT(error, actual, 4);
 GAROALVA_AT(error, expected, 8);
 GAROALVA_AT(error, offset, 12);
+GAROALVA_AT(error, differing, 16);
 
 GAROALVA_SIZE(key, 360);
 GAROALVA_AT(key, seal, 0);
@@ -544,7 +556,6 @@ GAROALVA_AT(key, layout, 16);
 GAROALVA_AT(key, signature, 280);
 GAROALVA_AT(key, configured, 336);
 GAROALVA_AT(key, error, 340);
-GAROALVA_AT(key, spare, 356);
 
 GAROALVA_SIZE(side, 24);
 GAROALVA_AT(side, index, 0);
@@ -553,7 +564,7 @@ GAROALVA_AT(side, odd, 16);
 GAROALVA_AT(side, guard, 20);
 GAROALVA_AT(side, spare, 22);
 
-GAROALVA_SIZE(session, 456);
+GAROALVA_SIZE(session, 464);
 GAROALVA_AT(session, seal, 0);
 GAROALVA_AT(session, key, 8);
 GAROALVA_AT(session, offset, 368);
@@ -561,7 +572,8 @@ GAROALVA_AT(session, data_length, 376);
 GAROALVA_AT(session, input, 384);
 GAROALVA_AT(session, output, 408);
 GAROALVA_AT(session, error, 432);
-GAROALVA_AT(session, held, 448);
+GAROALVA_AT(session, held, 452);
+GAROALVA_AT(session, spare, 460);
 
 GAROALVA_SIZE(configure_result, 368);
 GAROALVA_AT(configure_result, key, 0);
@@ -573,26 +585,27 @@ GAROALVA_AT(transfer_result, answer, 360);
 GAROALVA_AT(transfer_result, taken, 368);
 GAROALVA_AT(transfer_result, written, 376);
 
-GAROALVA_SIZE(check_result, 384);
+GAROALVA_SIZE(check_result, 392);
 GAROALVA_AT(check_result, key, 0);
 GAROALVA_AT(check_result, answer, 360);
 GAROALVA_AT(check_result, error, 368);
+GAROALVA_AT(check_result, spare, 388);
 
-GAROALVA_SIZE(open_result, 824);
+GAROALVA_SIZE(open_result, 832);
 GAROALVA_AT(open_result, key, 0);
 GAROALVA_AT(open_result, session, 360);
-GAROALVA_AT(open_result, answer, 816);
+GAROALVA_AT(open_result, answer, 824);
 
-GAROALVA_SIZE(packet_result, 480);
+GAROALVA_SIZE(packet_result, 488);
 GAROALVA_AT(packet_result, session, 0);
-GAROALVA_AT(packet_result, answer, 456);
-GAROALVA_AT(packet_result, taken, 464);
-GAROALVA_AT(packet_result, written, 472);
+GAROALVA_AT(packet_result, answer, 464);
+GAROALVA_AT(packet_result, taken, 472);
+GAROALVA_AT(packet_result, written, 480);
 
-GAROALVA_SIZE(finish_result, 824);
+GAROALVA_SIZE(finish_result, 832);
 GAROALVA_AT(finish_result, key, 0);
 GAROALVA_AT(finish_result, session, 360);
-GAROALVA_AT(finish_result, answer, 816);
+GAROALVA_AT(finish_result, answer, 824);
 
 GAROALVA_SIZE(abandon_result, 368);
 GAROALVA_AT(abandon_result, key, 0);

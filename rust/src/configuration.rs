@@ -19,6 +19,11 @@ impl Mask {
     pub const REFERENCE: Mask = Mask(0x0F);
     /// All eight bytes.
     pub const ALL: Mask = Mask(0xFF);
+
+    /// Whether this byte of the field is in the set. A field has the bytes 0 to 7.
+    pub fn contains(self, byte: usize) -> bool {
+        byte < 8 && self.0 & (0x80 >> byte) != 0
+    }
 }
 
 impl BitOr for Mask {

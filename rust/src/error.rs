@@ -2,8 +2,9 @@
 
 use std::error::Error;
 use std::fmt::{Display, Formatter};
+use std::ops::Range;
 
-use crate::{ffi, Refusal};
+use crate::{ffi, Mask, Refusal};
 
 /// A part of the eight-byte field after a block.
 #[derive(Clone, Copy, Debug, PartialEq, Eq)]
@@ -27,6 +28,20 @@ pub struct BlockError {
     pub expected: u32,
     /// Where the block's data begins in the input stream.
     pub offset: u64,
+    /// The bytes of the bad tag that are checked and differ. A byte that is not checked is not among them, nor is a byte
+    /// of another tag.
+    pub differing: Mask,
+}
+
+impl Tag {
+    /// Returns the tag's bytes in the field.
+    pub fn bytes(self) -> Range<usize> {
+        match self {
+            Tag::Guard => 0..2,
+            Tag::Application => 2..4,
+            Tag::Reference => 4..8,
+        }
+    }
 }
 
 impl BlockError {
@@ -38,6 +53,7 @@ impl BlockError {
             actual,
             expected,
             offset,
+            differing,
         } = checked.error;
         let tag = match error_type {
             ffi::ERROR_NONE => return Ok(None),
@@ -46,11 +62,13 @@ impl BlockError {
             ffi::ERROR_APPLICATION => Tag::Application,
             unknown => return Err(Refusal::Unknown(unknown.into())),
         };
+        let mask = u8::try_from(differing).map_err(|_| Refusal::Unknown(differing.into()))?;
         Ok(Some(BlockError {
             tag,
             actual,
             expected,
             offset: offset.into(),
+            differing: Mask(mask),
         }))
     }
 }
@@ -68,16 +86,23 @@ impl Display for Tag {
 // The words are those of the C function garoalva_error_text, and a test compares them.
 impl Display for BlockError {
     fn fmt(&self, f: &mut Formatter<'_>) -> std::fmt::Result {
-        let digits = match self.tag {
-            Tag::Guard | Tag::Application => 4,
-            Tag::Reference => 8,
-        };
+        let digits = 2 * self.tag.bytes().len();
         write!(
             f,
             "bad {} in the block at byte {} of the input stream: \
-             its field says 0x{:0digits$X}, the rule gives 0x{:0digits$X}",
+             its field says 0x{:0digits$X}, the rule gives 0x{:0digits$X}; ",
             self.tag, self.offset, self.expected, self.actual
-        )
+        )?;
+        let in_field = self.tag.bytes().filter(|&byte| self.differing.contains(byte));
+        let in_tag: Vec<_> = in_field.map(|byte| byte - self.tag.bytes().start).collect();
+        match in_tag.as_slice() {
+            [] => write!(f, "no checked byte of the {} differs", self.tag),
+            [one] => write!(f, "checked byte {one} of the {} differs", self.tag),
+            [most @ .., last] => {
+                let most = most.iter().map(usize::to_string).collect::<Vec<_>>().join(", ");
+                write!(f, "checked bytes {most} and {last} of the {} differ", self.tag)
+            }
+        }
     }
 }
 

@@ -76,6 +76,7 @@ pub struct Error {
     pub actual: u32,
     pub expected: u32,
     pub offset: u32,
+    pub differing: u32,
 }
 
 #[derive(Clone, Copy)]
@@ -87,7 +88,6 @@ pub struct Key {
     signature: Signature,
     configured: u32,
     error: Error,
-    spare: u32,
 }
 
 #[derive(Clone, Copy)]
@@ -111,6 +111,7 @@ pub struct Session {
     output: Side,
     error: Error,
     held: [u8; 8],
+    spare: u32,
 }
 
 #[repr(C)]
@@ -132,6 +133,7 @@ pub struct CheckResult {
     pub key: Key,
     pub answer: u64,
     pub error: Error,
+    spare: u32,
 }
 
 #[repr(C)]
@@ -186,16 +188,16 @@ assert_layouts! {
     Layout 264: entries 0, used 256, repeat 260;
     Signature 56: memory 0, wire 24, attribute_flags 48, check_mask 52, copy_mask 53, spare 54;
     Configuration 320: layout 0, signature 264;
-    Error 16: error_type 0, actual 4, expected 8, offset 12;
-    Key 360: seal 0, memory_length 8, layout 16, signature 280, configured 336, error 340, spare 356;
+    Error 20: error_type 0, actual 4, expected 8, offset 12, differing 16;
+    Key 360: seal 0, memory_length 8, layout 16, signature 280, configured 336, error 340;
     Side 24: index 0, at 8, odd 16, guard 20, spare 22;
-    Session 456: seal 0, key 8, offset 368, data_length 376, input 384, output 408, error 432, held 448;
+    Session 464: seal 0, key 8, offset 368, data_length 376, input 384, output 408, error 432, held 452, spare 460;
     ConfigureResult 368: key 0, answer 360;
     TransferResult 384: key 0, answer 360, taken 368, written 376;
-    CheckResult 384: key 0, answer 360, error 368;
-    OpenResult 824: key 0, session 360, answer 816;
-    PacketResult 480: session 0, answer 456, taken 464, written 472;
-    FinishResult 824: key 0, session 360, answer 816;
+    CheckResult 392: key 0, answer 360, error 368, spare 388;
+    OpenResult 832: key 0, session 360, answer 824;
+    PacketResult 488: session 0, answer 464, taken 472, written 480;
+    FinishResult 832: key 0, session 360, answer 824;
     AbandonResult 368: key 0, answer 360;
 }
 
@@ -340,7 +342,7 @@ pub mod texts {
     }
 
     pub fn error_text(error: Error) -> String {
-        let mut text = [0; 128];
+        let mut text = [0; 192];
         // SAFETY: the array has as many bytes as it says.
         let length = unsafe { garoalva_error_text(error, text.as_mut_ptr().cast(), text.len()) };
         let text = CStr::from_bytes_until_nul(&text).expect("a text ends in 0");

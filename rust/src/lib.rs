@@ -59,10 +59,11 @@
 //!
 //! assert_eq!(memory[47], 2); // memory holds the data as it was on the wire,
 //! let error = key.check()?.ok_or("the damage was missed")?; // and check returns what was wrong with it
-//! assert_eq!((error.tag, error.offset), (Tag::Guard, 16));
+//! assert_eq!((error.tag, error.offset, error.differing), (Tag::Guard, 16, Mask::GUARD));
 //! assert_eq!(
 //!     error.to_string(),
-//!     "bad guard in the block at byte 16 of the input stream: its field says 0x0000, the rule gives 0x9CD9"
+//!     "bad guard in the block at byte 16 of the input stream: its field says 0x0000, the rule gives 0x9CD9; \
+//!      checked bytes 0 and 1 of the guard differ"
 //! );
 //! assert_eq!(key.check()?, None);
 //! # Ok(())

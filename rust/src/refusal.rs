@@ -42,8 +42,8 @@ pub enum Refusal {
     /// The session is not one of the linked library's version. All sessions of this crate are, if the library is the
     /// crate's.
     NotASession,
-    /// The library returned an answer, or check an error type, that this crate does not know: the library is of another
-    /// version.
+    /// The library returned an answer, or check an error type or a set of bytes, that this crate does not know: the
+    /// library is of another version.
     Unknown(u64),
 }
 

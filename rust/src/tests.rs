@@ -39,8 +39,19 @@ fn has_error(mut key: Key) -> bool {
 }
 
 fn checked(error: ffi::Error) -> ffi::CheckResult {
-    let checked = ffi::check(Key::new().raw);
-    ffi::CheckResult { error, ..checked }
+    let mut checked = ffi::check(Key::new().raw);
+    checked.error = error;
+    checked
+}
+
+fn guard_error() -> ffi::Error {
+    ffi::Error {
+        error_type: ffi::ERROR_GUARD,
+        actual: 0,
+        expected: 1,
+        offset: 0,
+        differing: 0x40,
+    }
 }
 
 #[test]
@@ -83,6 +94,35 @@ fn an_error_of_an_unknown_type_is_not_taken_for_another() {
 }
 
 #[test]
+fn a_mask_of_more_than_eight_bits_is_not_cut() {
+    let differing_of = |differing| {
+        let error = BlockError::of(&checked(ffi::Error {
+            differing,
+            ..guard_error()
+        }));
+        error.map(|error| error.unwrap().differing)
+    };
+    assert_eq!(differing_of(0x40), Ok(Mask(0x40)));
+    assert_eq!(differing_of(0xFF), Ok(Mask(0xFF)));
+    assert_eq!(differing_of(0x140), Err(Refusal::Unknown(0x140)));
+}
+
+#[test]
+fn a_mask_has_bit_7_for_byte_0() {
+    let bytes = |mask: Mask| (0..100).filter(|&byte| mask.contains(byte)).collect::<Vec<_>>();
+    assert_eq!(bytes(Mask::NONE), []);
+    assert_eq!(bytes(Mask(0x81)), [0, 7]);
+    assert_eq!(bytes(Mask::ALL), [0, 1, 2, 3, 4, 5, 6, 7]);
+    for (tag, mask) in [
+        (Tag::Guard, Mask::GUARD),
+        (Tag::Application, Mask::APPLICATION),
+        (Tag::Reference, Mask::REFERENCE),
+    ] {
+        assert_eq!(bytes(mask), tag.bytes().collect::<Vec<_>>());
+    }
+}
+
+#[test]
 fn the_library_has_the_crates_version() {
     assert_eq!(texts::version(), env!("CARGO_PKG_VERSION"));
 }
@@ -102,12 +142,13 @@ fn the_library_has_the_crates_words_for_errors() {
     let numbers = [0, 0x1F, 0x9CD9, 0xFFFF, 0x1_0000, u32::MAX];
     for error_type in [ffi::ERROR_GUARD, ffi::ERROR_REFERENCE, ffi::ERROR_APPLICATION] {
         for (actual, expected) in numbers.iter().flat_map(|&a| numbers.map(|b| (a, b))) {
-            for offset in [0, 1560, u32::MAX] {
+            for (offset, differing) in [0, 1560, u32::MAX].iter().flat_map(|&o| (0..256).map(move |d| (o, d))) {
                 let error = ffi::Error {
                     error_type,
                     actual,
                     expected,
                     offset,
+                    differing,
                 };
                 let block_error = BlockError::of(&checked(error)).unwrap().unwrap();
                 assert_eq!(texts::error_text(error), block_error.to_string());

@@ -52,6 +52,7 @@ fn case_c_is_a_guard_error() {
         actual: 0x9CD9,
         expected: 0,
         offset: 16,
+        differing: Mask::GUARD,
     };
     assert_eq!(received(&case_a(), &damaged()), Some(error));
 }
@@ -77,6 +78,7 @@ fn case_h_without_the_escape_is_a_guard_error() {
         actual: 0x8BB7,
         expected: 0xDEAD,
         offset: 0,
+        differing: Mask::GUARD,
     };
     assert_eq!(received(&case_a(), &wire), Some(error));
 }
@@ -118,8 +120,49 @@ fn a_wrong_reference_tag_is_said_in_words() {
     assert_eq!(
         error.to_string(),
         "bad reference tag in the block at byte 16 of the input stream: \
-         its field says 0x00000009, the rule gives 0x00000000"
+         its field says 0x00000009, the rule gives 0x00000000; checked byte 3 of the reference tag differs"
     );
+}
+
+#[test]
+fn a_half_masked_application_tag_is_told_from_a_wrong_one() {
+    let mut wire = WIRE;
+    wire[10..12].copy_from_slice(&[0x56, 0x78]);
+    let error = BlockError {
+        tag: Tag::Application,
+        actual: 0x1234,
+        expected: 0x5678,
+        offset: 0,
+        differing: Mask::APPLICATION,
+    };
+    let words = "bad application tag in the block at byte 0 of the input stream: \
+                 its field says 0x5678, the rule gives 0x1234; ";
+    assert_eq!(received(&case_a(), &wire), Some(error));
+    assert_eq!(
+        error.to_string(),
+        format!("{words}checked bytes 0 and 1 of the application tag differ")
+    );
+
+    let mut half_masked = case_a();
+    half_masked.signature.check = Mask::GUARD | Mask(0x10) | Mask::REFERENCE;
+    let error = BlockError {
+        differing: Mask(0x10),
+        ..error
+    };
+    assert_eq!(received(&half_masked, &wire), Some(error));
+    assert_eq!(
+        error.to_string(),
+        format!("{words}checked byte 1 of the application tag differs")
+    );
+}
+
+#[test]
+fn a_later_tag_adds_no_differing_byte() {
+    let mut wire = WIRE;
+    wire[9] ^= 1; // the second byte of the guard,
+    wire[10..16].fill(0); // and all of the tags after it
+    let error = received(&case_a(), &wire).unwrap();
+    assert_eq!((error.tag, error.differing), (Tag::Guard, Mask(0x40)));
 }
 
 #[test]

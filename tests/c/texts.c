@@ -56,33 +56,56 @@ static void check_error_text(garoalva_error error, const char *text) {
     CHECK(strlen(text) < GAROALVA_ERROR_TEXT_SIZE);
 }
 
-/* A text for each type. The numbers are narrower than their field, which shows how many digits are printed. */
+/* A text for each type and for sets of bytes. The numbers are narrower than their field, which shows how many digits
+ * are printed. Bits of other tags, and above the eight, are not said. */
 static void test_error_texts(void) {
     static const struct {
         uint32_t type;
+        uint32_t differing;
         const char *text;
     } rows[] = {
-        {GAROALVA_ERROR_NONE, "no error"},
-        {GAROALVA_ERROR_GUARD,
-         "bad guard in the block at byte 4160 of the input stream: its field says 0x00AB, the rule gives 0x09CD"},
-        {GAROALVA_ERROR_REFERENCE, "bad reference tag in the block at byte 4160 of the input stream: its field says "
-                                   "0x000000AB, the rule gives 0x000009CD"},
-        {GAROALVA_ERROR_APPLICATION, "bad application tag in the block at byte 4160 of the input stream: its field "
-                                     "says 0x00AB, the rule gives 0x09CD"},
-        {GAROALVA_ERROR_APPLICATION + 1, "unknown error type"},
-        {UINT32_MAX, "unknown error type"},
+        {GAROALVA_ERROR_NONE, 0, "no error"},
+        {GAROALVA_ERROR_GUARD, GAROALVA_MASK_GUARD,
+         "bad guard in the block at byte 4160 of the input stream: its field says 0x00AB, the rule gives 0x09CD; "
+         "checked bytes 0 and 1 of the guard differ"},
+        {GAROALVA_ERROR_GUARD, 0x7F,
+         "bad guard in the block at byte 4160 of the input stream: its field says 0x00AB, the rule gives 0x09CD; "
+         "checked byte 1 of the guard differs"},
+        {GAROALVA_ERROR_REFERENCE, GAROALVA_MASK_REFERENCE,
+         "bad reference tag in the block at byte 4160 of the input stream: its field says 0x000000AB, the rule gives "
+         "0x000009CD; checked bytes 0, 1, 2 and 3 of the reference tag differ"},
+        {GAROALVA_ERROR_REFERENCE, 0xFFFFFF0B,
+         "bad reference tag in the block at byte 4160 of the input stream: its field says 0x000000AB, the rule gives "
+         "0x000009CD; checked bytes 0, 2 and 3 of the reference tag differ"},
+        {GAROALVA_ERROR_APPLICATION, GAROALVA_MASK_APPLICATION,
+         "bad application tag in the block at byte 4160 of the input stream: its field says 0x00AB, the rule gives "
+         "0x09CD; checked bytes 0 and 1 of the application tag differ"},
+        {GAROALVA_ERROR_APPLICATION, 0xEF,
+         "bad application tag in the block at byte 4160 of the input stream: its field says 0x00AB, the rule gives "
+         "0x09CD; checked byte 0 of the application tag differs"},
+        {GAROALVA_ERROR_APPLICATION, 0xCF,
+         "bad application tag in the block at byte 4160 of the input stream: its field says 0x00AB, the rule gives "
+         "0x09CD; no checked byte of the application tag differs"},
+        {GAROALVA_ERROR_APPLICATION + 1, 0, "unknown error type"},
+        {UINT32_MAX, UINT32_MAX, "unknown error type"},
     };
     for (size_t i = 0; i < sizeof rows / sizeof *rows; i++) {
-        garoalva_error error = {.type = rows[i].type, .actual = 0x9CD, .expected = 0xAB, .offset = 4160};
+        garoalva_error error = {
+            .type = rows[i].type, .actual = 0x9CD, .expected = 0xAB, .offset = 4160, .differing = rows[i].differing};
         check_error_text(error, rows[i].text);
     }
 }
 
 /* No guard or tag is so wide, but a struct that came from elsewhere may hold such numbers. */
-static void test_longest_text(void) {
-    garoalva_error longest = {GAROALVA_ERROR_APPLICATION, UINT32_MAX, UINT32_MAX, UINT32_MAX};
-    check_error_text(longest, "bad application tag in the block at byte 4294967295 of the input stream: its field says "
-                              "0xFFFFFFFF, the rule gives 0xFFFFFFFF");
+static void test_longest_texts(void) {
+    garoalva_error application = {GAROALVA_ERROR_APPLICATION, UINT32_MAX, UINT32_MAX, UINT32_MAX, UINT32_MAX};
+    check_error_text(application,
+                     "bad application tag in the block at byte 4294967295 of the input stream: its field says "
+                     "0xFFFFFFFF, the rule gives 0xFFFFFFFF; checked bytes 0 and 1 of the application tag differ");
+    garoalva_error reference = {GAROALVA_ERROR_REFERENCE, UINT32_MAX, UINT32_MAX, UINT32_MAX, UINT32_MAX};
+    check_error_text(reference,
+                     "bad reference tag in the block at byte 4294967295 of the input stream: its field says "
+                     "0xFFFFFFFF, the rule gives 0xFFFFFFFF; checked bytes 0, 1, 2 and 3 of the reference tag differ");
 }
 
 /* The rule book's case C: the data's guard is 0x9CD9, its field says 0. */
@@ -96,8 +119,9 @@ static void test_found_error(void) {
     CHECK(received.answer == GAROALVA_ANSWER_DONE);
     garoalva_check_result checked = garoalva_check(received.key);
     CHECK(checked.answer == GAROALVA_ANSWER_DONE);
+    CHECK(checked.error.differing == GAROALVA_MASK_GUARD);
     check_error_text(checked.error, "bad guard in the block at byte 16 of the input stream: its field says 0x0000, the "
-                                    "rule gives 0x9CD9");
+                                    "rule gives 0x9CD9; checked bytes 0 and 1 of the guard differ");
     garoalva_check_result again = garoalva_check(checked.key);
     CHECK(again.answer == GAROALVA_ANSWER_DONE);
     check_error_text(again.error, "no error");
@@ -106,6 +130,6 @@ static void test_found_error(void) {
 void test_texts(void) {
     test_answer_texts();
     test_error_texts();
-    test_longest_text();
+    test_longest_texts();
     test_found_error();
 }

@@ -3,11 +3,12 @@
 use mathlib.Core.Path.{_≡_, refl, sym, ap, _∙_}
 use mathlib.Core.Bool.{Bool, true, false, _&&_, _||_, not, cond}
 use mathlib.Core.List.{List, [], _∷_}
-use Prim.Native.Nat.{ℕ, zero, suc, _+_, _*_, _%_, _≤_, _<_}
+use mathlib.Core.Logic.{_↔_}
+use Prim.Native.Nat.{ℕ, zero, suc, _+_, _*_, _/_, _%_, _≤_, _<_}
 use native.Mathlib.Omega.{arith}
 use lib.Dec.{eqb, ltb, leb}
 use lib.ListN.{getD}
-use borrow.Author.Tests.{le-leb, lt-leb, not-true, not-false, eqb-true, eqb-false, lt-ltb}
+use borrow.Author.Tests.{le-leb, lt-leb, leb-true, ltb-true, not-true, not-false, eq-eqb, ne-eqb, eqb-true, eqb-false, lt-ltb}
 use Rattle.field.specs.declared.ProtectionField.{ProtectionField}
 use Rattle.field.specs.declared.Judgement.{Judgement}
 use Rattle.field.specs.declared.Judgement.the-variants.{Good, Bad}
@@ -16,7 +17,7 @@ use Rattle.field.specs.declared.Tag.the-variants.{Guard, Application, Reference
 use Rattle.field.specs.Tests.{bit}
 use Rattle.field.specs.Domains.{signed}
 use Rattle.field.specs.Fields.{bytesOf, bytesIn}
-use Rattle.field.specs.Judging.{escaped, checkedMask, differs, digit, maskOf, differing, mismatch, firstBad, judged}
+use Rattle.field.specs.Judging.{escaped, checkedMask, differs, digit, maskOf, differing, bitsOf, mismatch, firstBad, judged}
 use Rattle.field.proofs.Laws.{digit-small}
 use Rattle.slot.specs.declared.Error.{Error}
 use Rattle.key.specs.declared.Key.{Key}
@@ -28,8 +29,10 @@ use Rattle.engine.specs.Streams.{inUnit, inputBlock}
 use Rattle.engine.specs.Transfers.{joined, guardBy, slotOf, errorBy, errorOf, firstError}
 use Rattle.engine.proofs.Units.{errors-last}
 use Rattle.transfer.specs.Transferring.{sendResult, receiveResult}
+use Rattle.cstructs.proofs.Laws.{both}
 use Rattle.audit.proofs.Ranges.{none-below, next-below, two-below}
-use Rattle.audit.specs.Errors.{found, computed, GoodByte, BadByte, GoodBlock, first, after, valueOf, FirstBadTag, FirstBadBlock, HoldsFirstError, SendFindsFirstError, ReceiveFindsFirstError}
+use Rattle.audit.proofs.FieldBytes.{eight-at}
+use Rattle.audit.specs.Errors.{InMask, found, computed, GoodByte, BadByte, GoodBlock, first, after, FirstBadTag, BadBytesOf, ErrorOfBlock, FirstBadBlock, HoldsFirstError, SendFindsFirstError, ReceiveFindsFirstError}
 
 -- ---- a set of eight bytes as a mask: which tags have a byte in it
 
@@ -94,12 +97,103 @@ module _ (a b c d e f g h : Bool) where
       go false false false true = refl
       go false false false false = refl
 
+-- ---- a set of eight bytes as a mask: the bits of each tag
+
+-- A bit of a number is set if and only if its binary digit is 1.
+digit-bit : (m n : ℕ) (b : Bool) → m / n % 2 ≡ digit b → bit m n ≡ b
+digit-bit m n true e = eq-eqb (m / n % 2) 1 e
+digit-bit m n false e = ne-eqb (m / n % 2) 1 (λ one. omega arith)
+
+module _ (a b c d e f g h : Bool) where
+  -- The digits of the flags are at most 1. A law about the mask reads these facts.
+  abbrev Small : Type 0
+  Small = (digit a ≤ 1) × (digit b ≤ 1) × (digit c ≤ 1) × (digit d ≤ 1) × (digit e ≤ 1) × (digit f ≤ 1) × (digit g ≤ 1) × (digit h ≤ 1)
+
+  small : Small
+  small = (digit-small a, digit-small b, digit-small c, digit-small d, digit-small e, digit-small f, digit-small g, digit-small h)
+
+  -- A mask of eight flags has eight bits.
+  set-small : set a b c d e f g h < 256
+  unfolding set
+  set-small = omega (arith, small)
+
+  -- The bytes in a mask are those whose flags are set.
+  bytes-in-set : bytesIn (set a b c d e f g h) ≡ a ∷ b ∷ c ∷ d ∷ e ∷ f ∷ g ∷ h ∷ []
+  unfolding set
+  bytes-in-set =
+      let at = digit-bit (set a b c d e f g h) in
+      rw (
+        at 128 a (omega (arith, small)),
+        at 64 b (omega (arith, small)),
+        at 32 c (omega (arith, small)),
+        at 16 d (omega (arith, small)),
+        at 8 e (omega (arith, small)),
+        at 4 f (omega (arith, small)),
+        at 2 g (omega (arith, small)),
+        at 1 h (omega (arith, small)),
+      ) refl
+
+  -- The bits of each tag are the mask of the same set without the bytes of the other tags.
+  guard-bits : set a b c d e f g h / 64 * 64 ≡ set a b false false false false false false
+  unfolding set
+  guard-bits = omega (arith, small)
+
+  application-bits : set a b c d e f g h % 64 / 16 * 16 ≡ set false false c d false false false false
+  unfolding set
+  application-bits = omega (arith, small)
+
+  reference-bits : set a b c d e f g h % 16 ≡ set false false false false e f g h
+  unfolding set
+  reference-bits = omega (arith, small)
+
+-- The number `setBy` is the mask of the bytes of which a test is true.
+abbrev setBy : (ℕ → Bool) → ℕ
+setBy bad = set (bad 0) (bad 1) (bad 2) (bad 3) (bad 4) (bad 5) (bad 6) (bad 7)
+
+-- The test `own p k` is true if byte k is one of the tag's.
+abbrev own : Tag → ℕ → Bool
+own p k = leb (first p) k && ltb k (after p)
+
+module _ (bad : ℕ → Bool) where
+  -- The test of a byte, which is false for the bytes of other tags.
+  abbrev ownBad : Tag → ℕ → Bool
+  ownBad p k = own p k && bad k
+
+  -- The bits of a tag are the mask of its own bytes of which the test is true.
+  tag-set : (p : Tag) → bitsOf p (setBy bad) ≡ setBy (ownBad p)
+  tag-set Guard = guard-bits (bad 0) (bad 1) (bad 2) (bad 3) (bad 4) (bad 5) (bad 6) (bad 7)
+  tag-set Application = application-bits (bad 0) (bad 1) (bad 2) (bad 3) (bad 4) (bad 5) (bad 6) (bad 7)
+  tag-set Reference = reference-bits (bad 0) (bad 1) (bad 2) (bad 3) (bad 4) (bad 5) (bad 6) (bad 7)
+
+  -- The bits of a tag are less than 256.
+  tag-small : (p : Tag) → bitsOf p (setBy bad) < 256
+  tag-small p = rw (tag-set p) (set-small _ _ _ _ _ _ _ _)
+
+  -- Byte k is in the bits of a tag if and only if it is the tag's and the test is true of it.
+  in-tag : (p : Tag) (k : ℕ) → k < 8 → InMask (bitsOf p (setBy bad)) k ↔ ((first p ≤ k) × (k < after p) × (bad k ≡ true))
+  in-tag p k h = ((λ m. to (sym flag ∙ m)), (λ t. flag ∙ from t))
+    where
+      flag : getD (bytesIn (bitsOf p (setBy bad))) k false ≡ ownBad p k
+      flag =
+          ap (λ (m : ℕ). getD (bytesIn m) k false) (tag-set p)
+          ∙ ap (λ (l : List Bool). getD l k false) (bytes-in-set _ _ _ _ _ _ _ _)
+          ∙ eight-at (ownBad p) false k h
+
+      to : ownBad p k ≡ true → (first p ≤ k) × (k < after p) × (bad k ≡ true)
+      to t =
+          let u = both (own p k) (bad k) t in
+          let v = both (leb (first p) k) (ltb k (after p)) (u .0) in
+          (leb-true (first p) k (v .0), ltb-true k (after p) (v .1), u .1)
+
+      from : (first p ≤ k) × (k < after p) × (bad k ≡ true) → ownBad p k ≡ true
+      from (f, l, b) = rw (le-leb (first p) k f, lt-ltb k (after p) l, b) refl
+
 -- ---- the first bad tag, by a test for each byte
 
 -- A judgement fits a test of each byte if it is Good and no byte is bad, or if it names the first tag with a bad byte.
 data Told (bad : ℕ → Bool) (rule seen : ProtectionField) : Judgement → Type 0 where
   all-good : ((k : ℕ) → k < 8 → bad k ≡ false) → Told bad rule seen Good
-  tag-bad : (p : Tag) (k : ℕ) → first p ≤ k → k < after p → bad k ≡ true → ((j : ℕ) → j < first p → bad j ≡ false) → Told bad rule seen (Bad (mismatch p rule seen))
+  tag-bad : (p : Tag) (k : ℕ) → first p ≤ k → k < after p → bad k ≡ true → ((j : ℕ) → j < first p → bad j ≡ false) → Told bad rule seen (Bad (mismatch p (setBy bad) rule seen))
 
 module _ (bad : ℕ → Bool) where
   -- The property `NotBad k` says that the test of byte k is false.
@@ -113,9 +207,9 @@ module _ (bad : ℕ → Bool) where
     -- The judgement that is chosen by the tests of the eight bytes fits them.
     by-bytes : (a b c d e f g h : Bool) → bad 0 ≡ a → bad 1 ≡ b → bad 2 ≡ c → bad 3 ≡ d → bad 4 ≡ e → bad 5 ≡ f → bad 6 ≡ g → bad 7 ≡ h
         → Told bad rule seen
-        (cond (a || b) (Bad (mismatch Guard rule seen))
-        (cond (c || d) (Bad (mismatch Application rule seen))
-        (cond ((e || f) || (g || h)) (Bad (mismatch Reference rule seen)) Good)))
+        (cond (a || b) (Bad (mismatch Guard (setBy bad) rule seen))
+        (cond (c || d) (Bad (mismatch Application (setBy bad) rule seen))
+        (cond ((e || f) || (g || h)) (Bad (mismatch Reference (setBy bad) rule seen)) Good)))
     by-bytes true b c d e f g h i j k l m n o p = tag-bad Guard 0 (omega arith) (omega arith) i (none-below NotBad)
     by-bytes false true c d e f g h i j k l m n o p = tag-bad Guard 1 (omega arith) (omega arith) j (none-below NotBad)
     by-bytes false false true d e f g h i j k l m n o p = tag-bad Application 2 (omega arith) (omega arith) k (two-below NotBad i j)
@@ -187,28 +281,45 @@ module _ (r : Rule) (stream : List ℕ) (i : ℕ) where
       let b = bad-is (escaped (r .input) (found r stream i)) (getD (bytesIn (r .«check_mask»)) k false) _ _ h in
       record { checked = record { masked = b .0; unescaped = b .1 }; wrong = b .2 }
 
+  -- The test `badByte` is true of a `BadByte`.
+  bad-told : (k : ℕ) → BadByte r stream i k → badByte k ≡ true
+  unfolding badByte
+  bad-told k b = rw (b .checked .unescaped, b .checked .masked, ne-eqb _ _ (b .wrong)) refl
+
+  -- The bits of a tag in the mask of the bad bytes stand for its bad bytes.
+  bad-bytes : (p : Tag) → BadBytesOf r stream i p (bitsOf p (setBy badByte))
+  bad-bytes p = record {
+    eightBits = tag-small badByte p;
+    bits = λ k h. let t = in-tag badByte p k h in (
+      (λ m. (t .0 m .0, omega (arith, h, t .0 m .1), bad-byte k (t .0 m .2))),
+      (λ b. t .1 (b .0, b .1, bad-told k (b .2))),
+    );
+  }
+
   -- ---- the slot after a block
 
-  -- An empty slot says that the block is good, and a slot that holds an error says which tag is the first bad one.
+  -- An empty slot says that the block is good, and a slot that holds an error that it is the block's.
   abbrev Says : Slot → Type 0
   Says Empty = signed (r .input) ≡ true → GoodBlock r stream i
-  Says (Holding e) = (signed (r .input) ≡ true) × FirstBadTag r stream i (e .mismatch .tag) × (e .mismatch .actual ≡ valueOf (e .mismatch .tag) (computed r stream i))
-      × (e .mismatch .expected ≡ valueOf (e .mismatch .tag) (found r stream i)) × (e .offset ≡ i * inUnit r)
+  Says (Holding e) = (signed (r .input) ≡ true) × ErrorOfBlock r stream i e
 
   -- What the slot of a block says is true.
   error-says : Says (errorOf r stream i)
   unfolding errorBy slotOf
   error-says = go (signed (r .input)) refl
     where
-      tag-says : signed (r .input) ≡ true → (p : Tag) → FirstBadTag r stream i p → Says (slotOf (i * inUnit r) (Bad (mismatch p (computed r stream i) (found r stream i))))
-      tag-says s Guard f = (s, f, refl, refl, refl)
-      tag-says s Application f = (s, f, refl, refl, refl)
-      tag-says s Reference f = (s, f, refl, refl, refl)
-
       judgement-says : signed (r .input) ≡ true → {j : Judgement} → Told badByte (computed r stream i) (found r stream i) j → Says (slotOf (i * inUnit r) j)
       judgement-says s (all-good h) = λ t k l. good-byte k (h k l)
-      judgement-says s (tag-bad p k from to h before) =
-          tag-says s p (record { byte = k; from = from; to = to; bad = bad-byte k h; before = λ j l. good-byte j (before j l) })
+      judgement-says s (tag-bad p k from to h before) = (
+        s,
+        record {
+          tag = record { byte = k; from = from; to = to; bad = bad-byte k h; before = λ j l. good-byte j (before j l) };
+          actual = refl;
+          expected = refl;
+          offset = refl;
+          differing = bad-bytes p;
+        },
+      )
 
       go : (t : Bool) → signed (r .input) ≡ t → Says (cond t (slotOf (i * inUnit r) (judged (r .input) (r .«check_mask») i (guardBy (r .input) (inputBlock r stream i)) (found r stream i))) Empty)
       go true s = judgement-says s judgement-told
@@ -229,8 +340,8 @@ module _ (r : Rule) (stream : List ℕ) where
   first-says (suc n) = rw (errors-last r stream n) (go (firstError r stream n) (errorOf r stream n) (first-says n) (error-says r stream n))
     where
       go : (a b : Slot) → SaysAll n a → Says r stream n b → SaysAll (suc n) (keep a b)
-      go (Holding e) b (s, f) h = (s, record { block = f .block; among = omega (arith, f .among); before = f .before; tag = f .tag; actual = f .actual; expected = f .expected; offset = f .offset })
-      go Empty (Holding e) all (s, p, a, x, o) = (s, record { block = n; among = omega arith; before = all s; tag = p; actual = a; expected = x; offset = o })
+      go (Holding e) b (s, f) h = (s, record { block = f .block; among = omega (arith, f .among); before = f .before; error = f .error })
+      go Empty (Holding e) all (s, own) = (s, record { block = n; among = omega arith; before = all s; error = own })
       go Empty Empty all h = λ s. next-below (GoodBlock r stream) n (all s) (h s)
 
   -- A block with a bad tag is not good.
@@ -248,7 +359,7 @@ module _ (r : Rule) (stream : List ℕ) where
     where
       -- If one of n blocks is bad, not all of them are good.
       never : (e : Error) → FirstBadBlock r stream n e → ((i : ℕ) → i < n → GoodBlock r stream i) → ⊥
-      never e f all = bad-not-good (f .block) (e .mismatch .tag) (f .tag) (all (f .block) (f .among))
+      never e f all = bad-not-good (f .block) (e .mismatch .tag) (f .error .tag) (all (f .block) (f .among))
 
       go : (a : Slot) → SaysAll n a → HoldsFirstError r stream n a
       go Empty h = record { unsigned = λ s. refl; none = λ s. ((λ q. h s), (λ q. refl)); some = λ s e q. let z : _≡_ {A = ℕ} 0 1 = cc in absurd (omega arith) }

@@ -30,16 +30,17 @@ split-joined a b c d e f g h p q r s t =
     rw (guard, guard′, tag, tag′, high, low, one, two, three, four)
 
 -- Element k of the list of f 0 to f 7 is f k.
-eight-at : (f : ℕ → ℕ) (k : ℕ) → k < 8 → getD (f 0 ∷ f 1 ∷ f 2 ∷ f 3 ∷ f 4 ∷ f 5 ∷ f 6 ∷ f 7 ∷ []) k 0 ≡ f k
-eight-at f zero h = refl
-eight-at f (suc zero) h = refl
-eight-at f (suc (suc zero)) h = refl
-eight-at f (suc (suc (suc zero))) h = refl
-eight-at f (suc (suc (suc (suc zero)))) h = refl
-eight-at f (suc (suc (suc (suc (suc zero))))) h = refl
-eight-at f (suc (suc (suc (suc (suc (suc zero)))))) h = refl
-eight-at f (suc (suc (suc (suc (suc (suc (suc zero))))))) h = refl
-eight-at f (suc (suc (suc (suc (suc (suc (suc (suc k)))))))) h = absurd (omega arith)
+pub eight-at : {A : Type 0} (f : ℕ → A) (d : A) (k : ℕ) → k < 8
+    → getD (f 0 ∷ f 1 ∷ f 2 ∷ f 3 ∷ f 4 ∷ f 5 ∷ f 6 ∷ f 7 ∷ []) k d ≡ f k
+eight-at f d zero h = refl
+eight-at f d (suc zero) h = refl
+eight-at f d (suc (suc zero)) h = refl
+eight-at f d (suc (suc (suc zero))) h = refl
+eight-at f d (suc (suc (suc (suc zero)))) h = refl
+eight-at f d (suc (suc (suc (suc (suc zero))))) h = refl
+eight-at f d (suc (suc (suc (suc (suc (suc zero)))))) h = refl
+eight-at f d (suc (suc (suc (suc (suc (suc (suc zero))))))) h = refl
+eight-at f d (suc (suc (suc (suc (suc (suc (suc (suc k)))))))) h = absurd (omega arith)
 
 -- Byte k of a field that was read from a list of bytes is byte k of that list.
 found-byte : (bs : List ℕ) → Bytes bs → (k : ℕ) → k < 8 → getD (bytesOf (fieldOf bs)) k 0 ≡ getD bs k 0
@@ -47,7 +48,7 @@ unfolding fieldOf
 found-byte bs b k h =
     ap (λ (l : List ℕ). getD l k 0)
     (split-joined (getD bs 0 0) (getD bs 1 0) (getD bs 2 0) (getD bs 3 0) (getD bs 4 0) (getD bs 5 0) (getD bs 6 0) (getD bs 7 0) (b 1) (b 3) (b 5) (b 6) (b 7))
-    ∙ eight-at (λ (i : ℕ). getD bs i 0) k h
+    ∙ eight-at (λ (i : ℕ). getD bs i 0) 0 k h
 
 pub bytes-drop : (n : ℕ) (xs : List ℕ) → Bytes xs → Bytes (drop n xs)
 bytes-drop n xs b i = rw (getD-drop n xs i 0) (b (n + i))

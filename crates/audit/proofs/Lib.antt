@@ -2,6 +2,7 @@ pub mod Ranges
 pub mod Computing
 pub mod Cases
 pub mod Errors
+pub mod Differing
 pub mod BlockBits
 pub mod Bursts
 pub mod Destination

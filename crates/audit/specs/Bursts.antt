@@ -24,7 +24,6 @@ use lib.ListN.{length, drop, getD}
 use Rattle.guard.specs.Guards.{Bytes}
 use Rattle.field.specs.declared.Tag.the-variants.{Guard}
 use Rattle.field.specs.Domains.{signed}
-use Rattle.field.specs.Fields.{bytesIn}
 use Rattle.field.specs.Judging.{escaped}
 use Rattle.slot.specs.declared.Error.{Error}
 use Rattle.slot.specs.declared.Slot.{Slot}
@@ -36,7 +35,7 @@ use Rattle.engine.specs.declared.Rule.{Rule}
 use Rattle.engine.specs.Streams.{inBlock, inputBlock, inputField}
 use Rattle.transfer.specs.Rules.{receiveRule}
 use Rattle.transfer.specs.Transferring.{wireStream, answerOf, receiveResult}
-use Rattle.audit.specs.Errors.{found, RightByte, after, FirstBadTag, FirstBadBlock}
+use Rattle.audit.specs.Errors.{found, InMask, RightByte, after, FirstBadTag, FirstBadBlock}
 use Rattle.audit.specs.Cases.{keyOver, received, domainA, fieldA, wire}
 
 -- ---- changed bits
@@ -67,7 +66,7 @@ pub record Guarded (r : Rule) (stream : List ℕ) (i : ℕ) : Type 0 where
   pub kind : signed (r .input) ≡ true
   pub crc : r .input .«guard_type» ≡ 0
   pub right : (k : ℕ) → k < after Guard → RightByte r stream i k
-  pub masked : (k : ℕ) → k < after Guard → getD (bytesIn (r .«check_mask»)) k false ≡ true
+  pub masked : (k : ℕ) → k < after Guard → InMask (r .«check_mask») k
   pub unescaped : escaped (r .input) (found r stream i) ≡ false
 
 -- Unit i of the damaged stream is that of the intact one with a burst in its data, and its field is unchanged.
@@ -133,12 +132,12 @@ abbrev pub wireSeventeen : List ℕ
 wireSeventeen = wireWith (0 ∷ 0 ∷ 0 ∷ 0 ∷ 0x01 ∷ 0x8B ∷ 0xB7 ∷ 1 ∷ [])
 
 -- The first unit of A's wire is guarded. The burst of 16 bits is found: check returns the type of a bad guard, the CRC
--- of the damaged block, the guard in the field and offset 0. The burst of 17 bits is not found: check returns zeros. So
--- the statement is false for 17 bits.
+-- of the damaged block, the guard in the field, offset 0 and the mask of both guard bytes. The burst of 17 bits is not
+-- found: check returns zeros. So the statement is false for 17 bits.
 pub record BurstExamples : Type 0 where
   pub guarded : Guarded ruleA (wire fieldA 0) 0
   pub sixteen : Damaged sureBits ruleA (wire fieldA 0) wireSixteen 0
-  pub sixteenFound : received domainA 0xFF wireSixteen ≡ 0 ∷ 32 ∷ 16 ∷ 1 ∷ 0x58CE ∷ 0x8BB7 ∷ 0 ∷ []
+  pub sixteenFound : received domainA 0xFF wireSixteen ≡ 0 ∷ 32 ∷ 16 ∷ 1 ∷ 0x58CE ∷ 0x8BB7 ∷ 0 ∷ 0xC0 ∷ []
   pub seventeen : Damaged (sureBits + 1) ruleA (wire fieldA 0) wireSeventeen 0
-  pub seventeenMissed : received domainA 0xFF wireSeventeen ≡ 0 ∷ 32 ∷ 16 ∷ 0 ∷ 0 ∷ 0 ∷ 0 ∷ []
+  pub seventeenMissed : received domainA 0xFF wireSeventeen ≡ 0 ∷ 32 ∷ 16 ∷ 0 ∷ 0 ∷ 0 ∷ 0 ∷ 0 ∷ []
   pub sharp : FindsBursts (sureBits + 1) → ⊥

@@ -1,5 +1,5 @@
--- Cases A to L (01, "Numbers to hold the definitions to"; H by 02, request 2), computed by the definitions that the
--- contracts cite.
+-- Cases A to L (01, "Numbers to hold the definitions to"; H by 02, request 2, and the last number of check by request
+-- 6), computed by the definitions that the contracts cite.
 --
 --   entry, twoEntries, domain, configuration, keyOver    what the cases share
 --   numbers, answers, received, checksumSent             what a case shows
@@ -66,7 +66,8 @@ keyOver n wire checkMask =
 
 -- The numbers that check returns.
 abbrev pub numbers : (c : CheckResult) → List ℕ
-numbers c = c .error .«error_type» ∷ c .error .actual ∷ c .error .expected ∷ c .error .offset ∷ []
+numbers c =
+    c .error .«error_type» ∷ c .error .actual ∷ c .error .expected ∷ c .error .offset ∷ c .error .differing ∷ []
 
 -- A transfer's number, bytes taken and bytes written.
 abbrev pub answers : (t : TransferResult) → List ℕ
@@ -160,17 +161,17 @@ worked =
     ∷ (configureJ 1044 1027 ∷ [])
     ∷ []
 
--- What 01 says, and for H 02, request 2.
+-- What 01 says, for H 02, request 2, and of check's last number request 6.
 unfoldable pub said : List (List ℕ)
 said =
     -- A
     (0 ∷ 16 ∷ 32 ∷ wire fieldA 0)
     -- B
-    ∷ (0 ∷ 32 ∷ 16 ∷ 0 ∷ 0 ∷ 0 ∷ 0 ∷ dataA)
+    ∷ (0 ∷ 32 ∷ 16 ∷ 0 ∷ 0 ∷ 0 ∷ 0 ∷ 0 ∷ dataA)
     -- C
-    ∷ (0 ∷ 32 ∷ 16 ∷ 1 ∷ 0x9CD9 ∷ 0 ∷ 16 ∷ [])
+    ∷ (0 ∷ 32 ∷ 16 ∷ 1 ∷ 0x9CD9 ∷ 0 ∷ 16 ∷ 192 ∷ [])
     -- D
-    ∷ (0 ∷ 32 ∷ 16 ∷ 0 ∷ 0 ∷ 0 ∷ 0 ∷ [])
+    ∷ (0 ∷ 32 ∷ 16 ∷ 0 ∷ 0 ∷ 0 ∷ 0 ∷ 0 ∷ [])
     -- E
     ∷ (0xFFFF ∷ 0 ∷ [])
     -- F
@@ -178,9 +179,9 @@ said =
     -- G
     ∷ (0xFFFE ∷ [])
     -- H: no error
-    ∷ (0 ∷ 32 ∷ 16 ∷ 0 ∷ 0 ∷ 0 ∷ 0 ∷ [])
+    ∷ (0 ∷ 32 ∷ 16 ∷ 0 ∷ 0 ∷ 0 ∷ 0 ∷ 0 ∷ [])
     -- I
-    ∷ (0 ∷ 32 ∷ 16 ∷ 0 ∷ 0 ∷ 0 ∷ 0 ∷ [])
+    ∷ (0 ∷ 32 ∷ 16 ∷ 0 ∷ 0 ∷ 0 ∷ 0 ∷ 0 ∷ [])
     -- J
     ∷ (0 ∷ 1040 ∷ 1028 ∷ 516 ∷ [])
     -- K

@@ -11,19 +11,20 @@
 --   SendCopies, ReceiveCopies        so it is wherever the copy mask in force says copy
 --   SendKeepsGuard, ReceiveKeepsGuard     and so are both guard bytes under OneGuard
 use mathlib.Core.Path.{_≡_}
-use mathlib.Core.Bool.{true, false}
+use mathlib.Core.Bool.{true}
 use mathlib.Core.List.{List}
 use Prim.Native.Nat.{ℕ, _+_, _*_, _/_, _<_}
 use lib.ListN.{getD}
 use Rattle.guard.specs.Guards.{Bytes}
 use Rattle.field.specs.Domains.{signed}
-use Rattle.field.specs.Fields.{fieldBytes, bytesIn}
+use Rattle.field.specs.Fields.{fieldBytes}
 use Rattle.field.specs.Output.{copyMask}
 use Rattle.key.specs.declared.Signature.{Signature}
 use Rattle.key.specs.declared.Key.{Key}
 use Rattle.key.specs.declared.Outcome.the-variants.{Done}
 use Rattle.key.specs.Keys.{CameFromCalls}
 use Rattle.transfer.specs.Transferring.{answerOf, wireAfterSend, memoryAfterReceive}
+use Rattle.audit.specs.Errors.{InMask}
 use Rattle.audit.specs.Destination.{placeOf}
 
 -- Both domains are T10-DIF.
@@ -65,8 +66,8 @@ module _ (k : Key) (memory wire : List ℕ) (offset dataLength : ℕ) where
   SendCopies =
       CameFromCalls k → answerOf k memory wire offset dataLength ≡ Done → Bytes memory → BothSigned (k .signature)
       → (b : ℕ) → b < fieldBytes
-      → getD (bytesIn (copyMask (k .signature .«attribute_flags») (k .signature .«copy_mask»)
-      (k .signature .memory) (k .signature .wire))) b false ≡ true
+      → InMask (copyMask (k .signature .«attribute_flags») (k .signature .«copy_mask»)
+      (k .signature .memory) (k .signature .wire)) b
       → SentOn b
 
   -- Of an accepted receive: wherever bit b of the copy mask in force is set.
@@ -74,8 +75,8 @@ module _ (k : Key) (memory wire : List ℕ) (offset dataLength : ℕ) where
   ReceiveCopies =
       CameFromCalls k → answerOf k memory wire offset dataLength ≡ Done → Bytes wire → BothSigned (k .signature)
       → (b : ℕ) → b < fieldBytes
-      → getD (bytesIn (copyMask (k .signature .«attribute_flags») (k .signature .«copy_mask»)
-      (k .signature .wire) (k .signature .memory))) b false ≡ true
+      → InMask (copyMask (k .signature .«attribute_flags») (k .signature .«copy_mask»)
+      (k .signature .wire) (k .signature .memory)) b
       → ReceivedOn b
 
   -- Both guard bytes, so that a damaged block is sent with the guard that it had in memory.

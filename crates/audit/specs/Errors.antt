@@ -1,15 +1,19 @@
 -- Demand 2, errors: "It records no error exactly when every checked byte of every field that isn't escaped is right;
--- otherwise the first bad block, and in it guard before application tag before reference tag." In bytes, for a rule, an
--- input stream and its first n blocks.
+-- otherwise the first bad block, and in it guard before application tag before reference tag." 02, request 6: with it
+-- goes "the set of differing checked bytes, as an eight-bit mask in 01's bit order", with "only the reported field's
+-- bits". In bytes, for a rule, an input stream and its first n blocks.
 --
 --   found r stream i                 the field found after block i
 --   FoundBytes r stream              its bytes are the stream's own
 --   computed r stream i              the field that the input domain's rule computes for block i
+--   InMask mask k                    the bit of a mask that stands for byte k is set
 --   CheckedByte r stream i k         byte k of block i's field is checked
 --   RightByte, GoodByte, BadByte     it is right; right if it is checked; checked and wrong
 --   GoodBlock r stream i             all its bytes are good
---   first tag, after tag, valueOf    a tag's first byte, the byte after it, and its value
+--   first tag, after tag             a tag's first byte, and the byte after it
 --   FirstBadTag r stream i tag       block i is bad, and this is its first bad tag
+--   BadBytesOf r stream i tag mask   the mask stands for the bad bytes of this tag
+--   ErrorOfBlock r stream i e        the error is that of block i
 --   FirstBadBlock r stream n e       the error is that of the first bad block
 --   HoldsFirstError r stream n slot  what a slot that was empty holds after n blocks
 --   SendFindsFirstError, ReceiveFindsFirstError    so it is after an accepted transfer from an empty slot
@@ -25,7 +29,7 @@ use Rattle.field.specs.declared.Tag.{Tag}
 use Rattle.field.specs.declared.Tag.the-variants.{Guard, Application, Reference}
 use Rattle.field.specs.Domains.{signed}
 use Rattle.field.specs.Fields.{fieldBytes, bytesOf, bytesIn, fieldOf, computedField}
-use Rattle.field.specs.Judging.{escaped}
+use Rattle.field.specs.Judging.{escaped, valueOf}
 use Rattle.slot.specs.declared.Error.{Error}
 use Rattle.slot.specs.declared.Slot.{Slot}
 use Rattle.slot.specs.declared.Slot.the-variants.{Empty, Holding}
@@ -51,10 +55,14 @@ FoundBytes r stream =
 abbrev pub computed : (r : Rule) (stream : List ℕ) (i : ℕ) → ProtectionField
 computed r stream i = computedField (r .input) i (guardBy (r .input) (inputBlock r stream i))
 
+-- The bit of a mask that stands for byte k is set. 01: bit 7 stands for the first byte, bit 0 for the last.
+abbrev pub InMask : (mask k : ℕ) → Type 0
+InMask mask k = getD (bytesIn mask) k false ≡ true
+
 -- Byte k of block i's field is checked: its bit of the check mask is set, and the block is not escaped. 02, request 2:
 -- "all three fields of an escaped block are skipped". `Escape` says in bytes which blocks are escaped.
 pub record CheckedByte (r : Rule) (stream : List ℕ) (i k : ℕ) : Type 0 where
-  pub masked : getD (bytesIn (r .«check_mask»)) k false ≡ true
+  pub masked : InMask (r .«check_mask») k
   pub unescaped : escaped (r .input) (found r stream i) ≡ false
 
 -- Byte k as found is byte k as computed.
@@ -86,12 +94,6 @@ after Guard = 2
 after Application = 4
 after Reference = 8
 
--- A tag's value in a field.
-abbrev pub valueOf : (tag : Tag) (f : ProtectionField) → ℕ
-valueOf Guard f = f .guard
-valueOf Application f = f .application
-valueOf Reference f = f .reference
-
 -- Block i is bad, and this is its first bad tag: one of the tag's bytes is bad, and no byte of the tags before it.
 pub record FirstBadTag (r : Rule) (stream : List ℕ) (i : ℕ) (tag : Tag) : Type 0 where
   pub byte : ℕ
@@ -100,17 +102,28 @@ pub record FirstBadTag (r : Rule) (stream : List ℕ) (i : ℕ) (tag : Tag) : Ty
   pub bad : BadByte r stream i byte
   pub before : (k : ℕ) → k < first tag → GoodByte r stream i k
 
--- The error is that of the first bad block, the one of the n before which all blocks are good: its first bad tag, whole
--- as the rule computes it (actual), whole as it was found (expected), and where the block's data begins in the input
--- stream.
+-- The mask stands for the bad bytes of this tag: the bit for byte k is set exactly if byte k lies in the tag, is
+-- checked, and differs. It has no other bits.
+pub record BadBytesOf (r : Rule) (stream : List ℕ) (i : ℕ) (tag : Tag) (mask : ℕ) : Type 0 where
+  pub eightBits : mask < 256
+  pub bits :
+      (k : ℕ) → k < fieldBytes → InMask mask k ↔ ((first tag ≤ k) × (k < after tag) × BadByte r stream i k)
+
+-- The error is that of block i: its first bad tag, whole as the rule computes it (actual), whole as it was found
+-- (expected), where the block's data begins in the input stream, and which bytes of that tag are bad.
+pub record ErrorOfBlock (r : Rule) (stream : List ℕ) (i : ℕ) (e : Error) : Type 0 where
+  pub tag : FirstBadTag r stream i (e .mismatch .tag)
+  pub actual : e .mismatch .actual ≡ valueOf (e .mismatch .tag) (computed r stream i)
+  pub expected : e .mismatch .expected ≡ valueOf (e .mismatch .tag) (found r stream i)
+  pub offset : e .offset ≡ i * inUnit r
+  pub differing : BadBytesOf r stream i (e .mismatch .tag) (e .mismatch .differing)
+
+-- The error is that of the first bad block, the one of the n before which all blocks are good.
 pub record FirstBadBlock (r : Rule) (stream : List ℕ) (n : ℕ) (e : Error) : Type 0 where
   pub block : ℕ
   pub among : block < n
   pub before : (i : ℕ) → i < block → GoodBlock r stream i
-  pub tag : FirstBadTag r stream block (e .mismatch .tag)
-  pub actual : e .mismatch .actual ≡ valueOf (e .mismatch .tag) (computed r stream block)
-  pub expected : e .mismatch .expected ≡ valueOf (e .mismatch .tag) (found r stream block)
-  pub offset : e .offset ≡ block * inUnit r
+  pub error : ErrorOfBlock r stream block e
 
 -- What a slot that was empty holds after n blocks.
 pub record HoldsFirstError (r : Rule) (stream : List ℕ) (n : ℕ) (slot : Slot) : Type 0 where

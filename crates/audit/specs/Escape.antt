@@ -28,13 +28,13 @@ use Rattle.field.specs.declared.Domain.{Domain}
 use Rattle.field.specs.declared.ProtectionField.{ProtectionField}
 use Rattle.field.specs.declared.Tag.the-variants.{Application, Reference}
 use Rattle.field.specs.Domains.{signed, escapesByApplication, escapesByBoth}
-use Rattle.field.specs.Fields.{fieldBytes, bytesIn}
+use Rattle.field.specs.Fields.{fieldBytes}
 use Rattle.field.specs.Judging.{escaped}
 use Rattle.key.specs.declared.Key.{Key}
 use Rattle.key.specs.Keys.{CameFromCalls}
 use Rattle.engine.specs.declared.Rule.{Rule}
 use Rattle.engine.specs.Streams.{inBlock, inUnit}
-use Rattle.audit.specs.Errors.{CheckedByte, GoodBlock, first, after}
+use Rattle.audit.specs.Errors.{InMask, CheckedByte, GoodBlock, first, after}
 use Rattle.audit.specs.Cases.{domain, received}
 
 -- ---- escaped blocks
@@ -57,7 +57,7 @@ abbrev pub CheckedByEscape : (r : Rule) (stream : List ℕ) → Type 0
 CheckedByEscape r stream =
     Bytes stream → signed (r .input) ≡ true → (i k : ℕ)
     → CheckedByte r stream i k
-    ↔ ((getD (bytesIn (r .«check_mask»)) k false ≡ true) × (EscapedBlock r stream i → ⊥))
+    ↔ (InMask (r .«check_mask») k × (EscapedBlock r stream i → ⊥))
 
 -- An escaped block is good, whatever its data, its guard, the guard type, the configured tags and the check mask.
 abbrev pub EscapedIsGood : (r : Rule) (stream : List ℕ) → Type 0
@@ -85,12 +85,12 @@ unwritten guardType flags = received (domain guardType 0 flags) 0xFF wireUnwritt
 -- escape (flags 1) the guard of the first block is an error: the CRC of its data is 0x625F and its checksum 0, and
 -- 0xFFFF was found.
 pub record UnwrittenHolds : Type 0 where
-  pub crcByApplication : unwritten 0 3 ≡ 0 ∷ 32 ∷ 16 ∷ 0 ∷ 0 ∷ 0 ∷ 0 ∷ []
-  pub crcByBoth : unwritten 0 5 ≡ 0 ∷ 32 ∷ 16 ∷ 0 ∷ 0 ∷ 0 ∷ 0 ∷ []
-  pub crcWithoutEscape : unwritten 0 1 ≡ 0 ∷ 32 ∷ 16 ∷ 1 ∷ 0x625F ∷ 0xFFFF ∷ 0 ∷ []
-  pub checksumByApplication : unwritten 1 3 ≡ 0 ∷ 32 ∷ 16 ∷ 0 ∷ 0 ∷ 0 ∷ 0 ∷ []
-  pub checksumByBoth : unwritten 1 5 ≡ 0 ∷ 32 ∷ 16 ∷ 0 ∷ 0 ∷ 0 ∷ 0 ∷ []
-  pub checksumWithoutEscape : unwritten 1 1 ≡ 0 ∷ 32 ∷ 16 ∷ 1 ∷ 0 ∷ 0xFFFF ∷ 0 ∷ []
+  pub crcByApplication : unwritten 0 3 ≡ 0 ∷ 32 ∷ 16 ∷ 0 ∷ 0 ∷ 0 ∷ 0 ∷ 0 ∷ []
+  pub crcByBoth : unwritten 0 5 ≡ 0 ∷ 32 ∷ 16 ∷ 0 ∷ 0 ∷ 0 ∷ 0 ∷ 0 ∷ []
+  pub crcWithoutEscape : unwritten 0 1 ≡ 0 ∷ 32 ∷ 16 ∷ 1 ∷ 0x625F ∷ 0xFFFF ∷ 0 ∷ 0xC0 ∷ []
+  pub checksumByApplication : unwritten 1 3 ≡ 0 ∷ 32 ∷ 16 ∷ 0 ∷ 0 ∷ 0 ∷ 0 ∷ 0 ∷ []
+  pub checksumByBoth : unwritten 1 5 ≡ 0 ∷ 32 ∷ 16 ∷ 0 ∷ 0 ∷ 0 ∷ 0 ∷ 0 ∷ []
+  pub checksumWithoutEscape : unwritten 1 1 ≡ 0 ∷ 32 ∷ 16 ∷ 1 ∷ 0 ∷ 0xFFFF ∷ 0 ∷ 0xC0 ∷ []
 
 -- ---- blocks that are never escaped
 

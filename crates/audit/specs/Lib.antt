@@ -1,5 +1,6 @@
 pub mod Cases
 pub mod Errors
+pub mod Differing
 pub mod Bursts
 pub mod Destination
 pub mod Copying

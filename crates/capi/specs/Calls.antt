@@ -58,7 +58,7 @@ transferResultToC t =
 
 -- Check. Its answer is 0.
 abbrev pub checkResultToC : (c : CheckResult) → CCheckResult
-checkResultToC c = record { key = keyToC (c .key); answer = 0; error = c .error }
+checkResultToC c = record { key = keyToC (c .key); answer = 0; error = c .error; spare = 0 }
 
 -- The session of an open, or none if it was refused.
 abbrev pub sessionOpened : (outcome : Outcome) (o : OpenResult) → CSession
@@ -141,7 +141,7 @@ memoryAfterCReceive k memory wire offset dataLength =
 unfoldable pub cCheck : (k : CKey) → CCheckResult
 cCheck k =
     cond (cKeyValid k) (checkResultToC (checkResult (keyFromC k)))
-    (record { key = k; answer = notKey; error = noError })
+    (record { key = k; answer = notKey; error = noError; spare = 0 })
 
 -- What garoalva_open returns.
 unfoldable pub cOpen : (k : CKey) (memoryLength offset dataLength : ℕ) → COpenResult

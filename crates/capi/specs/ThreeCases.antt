@@ -57,7 +57,7 @@ pub record NoKey (c : CKey) : Type 0 where
       (memory wire : List ℕ) (offset dataLength : ℕ)
       → (cReceive c memory wire offset dataLength ≡ notTransferred c)
       × (memoryAfterCReceive c memory wire offset dataLength ≡ memory)
-  pub check : cCheck c ≡ record { key = c; answer = notKey; error = noError }
+  pub check : cCheck c ≡ record { key = c; answer = notKey; error = noError; spare = 0 }
   pub «open» :
       (n offset dataLength : ℕ)
       → cOpen c n offset dataLength ≡ record { key = c; session = noSession c; answer = notKey }

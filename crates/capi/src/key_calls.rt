@@ -138,11 +138,13 @@ pub extern "C" fn garoalva_check(key: CKey) -> CCheckResult
             key: key_to_c(c.key),
             answer: 0,
             error,
+            spare: 0,
         };
     }
     CCheckResult {
         key,
         answer: NOT_A_KEY,
         error: slot::no_error(),
+        spare: 0,
     }
 }

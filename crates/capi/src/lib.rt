@@ -41,6 +41,7 @@ pub struct CCheckResult {
     pub key: CKey,
     pub answer: u64,
     pub error: ErrorNumbers,
+    pub spare: u32,
 }
 
 #[repr(C)]

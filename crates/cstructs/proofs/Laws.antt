@@ -8,6 +8,7 @@ use native.Mathlib.Omega.{arith}
 use lib.Dec.{eqb}
 use lib.ListN.{length}
 use borrow.Author.Tests.{eq-eqb, eqb-true}
+use Rattle.field.specs.declared.Mismatch.{Mismatch}
 use Rattle.field.specs.declared.Tag.{Tag}
 use Rattle.field.specs.declared.Tag.the-variants.{Guard, Application, Reference}
 use Rattle.key.specs.declared.Key.{Key}
@@ -53,14 +54,16 @@ flag-passes false = refl
 slot-round : (s : Slot) → slotFromNumbers (errorNumbers s) ≡ s
 unfolding errorNumbers slotFromNumbers
 slot-round Empty = refl
-slot-round (Holding e) = go (e .mismatch .tag) (e .mismatch .actual) (e .mismatch .expected) (e .offset)
+slot-round (Holding e) =
+    go (e .mismatch .tag) (e .mismatch .actual) (e .mismatch .expected) (e .mismatch .differing) (e .offset)
   where
-    go : (t : Tag) (a x o : ℕ)
-        → let e = Holding (record { mismatch = record { tag = t; actual = a; expected = x }; offset = o }) in
+    go : (t : Tag) (a x d o : ℕ)
+        → let m : Mismatch = record { tag = t; actual = a; expected = x; differing = d } in
+        let e : Slot = Holding (record { mismatch = m; offset = o }) in
         slotFromNumbers (errorNumbers e) ≡ e
-    go Guard a x o = refl
-    go Application a x o = refl
-    go Reference a x o = refl
+    go Guard a x d o = refl
+    go Application a x d o = refl
+    go Reference a x d o = refl
 
 -- Converting a key to a C struct and back gives it again.
 pub key-round : (k : Key) → keyFromC (keyToC k) ≡ k
@@ -79,15 +82,16 @@ session-round s = rw (key-round (s .key), side-round (s .progress .input), side-
 -- Numbers of errors that `alike` finds the same are equal.
 alike-told : (m n : ErrorNumbers) → alike m n ≡ true → m ≡ n
 alike-told m n h =
-    let a = both (eqb (m .«error_type») (n .«error_type») && eqb (m .actual) (n .actual) && eqb (m .expected) (n .expected)) (eqb (m .offset) (n .offset)) h in
+    let d = both (eqb (m .«error_type») (n .«error_type») && eqb (m .actual) (n .actual) && eqb (m .expected) (n .expected) && eqb (m .offset) (n .offset)) (eqb (m .differing) (n .differing)) h in
+    let a = both (eqb (m .«error_type») (n .«error_type») && eqb (m .actual) (n .actual) && eqb (m .expected) (n .expected)) (eqb (m .offset) (n .offset)) (d .0) in
     let b = both (eqb (m .«error_type») (n .«error_type») && eqb (m .actual) (n .actual)) (eqb (m .expected) (n .expected)) (a .0) in
     let c = both (eqb (m .«error_type») (n .«error_type»)) (eqb (m .actual) (n .actual)) (b .0) in
-    let e : _≡_ {A = ErrorNumbers} (record { «error_type» = m .«error_type»; actual = m .actual; expected = m .expected; offset = m .offset }) (record { «error_type» = n .«error_type»; actual = n .actual; expected = n .expected; offset = n .offset }) =
-    rw (eqb-true (m .«error_type») (n .«error_type») (c .0), eqb-true (m .actual) (n .actual) (c .1), eqb-true (m .expected) (n .expected) (b .1), eqb-true (m .offset) (n .offset) (a .1)) refl in
+    let e : _≡_ {A = ErrorNumbers} (record { «error_type» = m .«error_type»; actual = m .actual; expected = m .expected; offset = m .offset; differing = m .differing }) (record { «error_type» = n .«error_type»; actual = n .actual; expected = n .expected; offset = n .offset; differing = n .differing }) =
+    rw (eqb-true (m .«error_type») (n .«error_type») (c .0), eqb-true (m .actual) (n .actual) (c .1), eqb-true (m .expected) (n .expected) (b .1), eqb-true (m .offset) (n .offset) (a .1), eqb-true (m .differing) (n .differing) (d .1)) refl in
     e
 
 alike-self : (n : ErrorNumbers) → alike n n ≡ true
-alike-self n = rw (eq-eqb (n .«error_type») (n .«error_type») refl, eq-eqb (n .actual) (n .actual) refl, eq-eqb (n .expected) (n .expected) refl, eq-eqb (n .offset) (n .offset) refl) refl
+alike-self n = rw (eq-eqb (n .«error_type») (n .«error_type») refl, eq-eqb (n .actual) (n .actual) refl, eq-eqb (n .expected) (n .expected) refl, eq-eqb (n .offset) (n .offset) refl, eq-eqb (n .differing) (n .differing) refl) refl
 
 -- The numbers of every slot are valid.
 proper-passes : (s : Slot) → errorValid (errorNumbers s) ≡ true
@@ -114,7 +118,6 @@ pub record KeyTold (r : CKey) : Type 0 where
   pub seal : r .seal ≡ keySeal
   pub configured : r .configured ≡ flag (eqb (r .configured) 1)
   pub signature : r .signature .spare ≡ 0
-  pub spare : r .spare ≡ 0
   pub error : r .error ≡ errorNumbers (slotFromNumbers (r .error))
   pub never : keyFromC r .configured ≡ false → keyFromC r .slot ≡ Empty
   pub keyValid : KeyValid (keyFromC r)
@@ -123,17 +126,15 @@ pub record KeyTold (r : CKey) : Type 0 where
 pub key-told : (r : CKey) → cKeyValid r ≡ true → KeyTold r
 unfolding cKeyValid
 key-told r h =
-    let a = both (eqb (r .seal) keySeal && isFlag (r .configured) && eqb (r .signature .spare) 0 && eqb (r .spare) 0 && errorValid (r .error) && configuredOrEmpty r) (keyValid (keyFromC r)) h in
-    let e = both (eqb (r .seal) keySeal && isFlag (r .configured) && eqb (r .signature .spare) 0 && eqb (r .spare) 0 && errorValid (r .error)) (configuredOrEmpty r) (a .0) in
-    let b = both (eqb (r .seal) keySeal && isFlag (r .configured) && eqb (r .signature .spare) 0 && eqb (r .spare) 0) (errorValid (r .error)) (e .0) in
-    let c = both (eqb (r .seal) keySeal && isFlag (r .configured) && eqb (r .signature .spare) 0) (eqb (r .spare) 0) (b .0) in
-    let d = both (eqb (r .seal) keySeal && isFlag (r .configured)) (eqb (r .signature .spare) 0) (c .0) in
+    let a = both (eqb (r .seal) keySeal && isFlag (r .configured) && eqb (r .signature .spare) 0 && errorValid (r .error) && configuredOrEmpty r) (keyValid (keyFromC r)) h in
+    let e = both (eqb (r .seal) keySeal && isFlag (r .configured) && eqb (r .signature .spare) 0 && errorValid (r .error)) (configuredOrEmpty r) (a .0) in
+    let b = both (eqb (r .seal) keySeal && isFlag (r .configured) && eqb (r .signature .spare) 0) (errorValid (r .error)) (e .0) in
+    let d = both (eqb (r .seal) keySeal && isFlag (r .configured)) (eqb (r .signature .spare) 0) (b .0) in
     let f = both (eqb (r .seal) keySeal) (isFlag (r .configured)) (d .0) in
     record {
       seal = eqb-true (r .seal) keySeal (f .0);
       configured = eqb-true (r .configured) (flag (eqb (r .configured) 1)) (f .1);
       signature = eqb-true (r .signature .spare) 0 (d .1);
-      spare = eqb-true (r .spare) 0 (c .1);
       error = alike-told (r .error) (errorNumbers (slotFromNumbers (r .error))) (b .1);
       never = none-held r (e .1);
       keyValid = a .1;
@@ -147,7 +148,7 @@ signature-back s h = rw (sym h) refl
 pub key-back : (r : CKey) → cKeyValid r ≡ true → keyToC (keyFromC r) ≡ r
 key-back r h =
     let t = key-told r h in
-    rw (sym (t .error), ← t .configured, sym (t .seal), signature-back (r .signature) (t .signature), sym (t .spare)) refl
+    rw (sym (t .error), ← t .configured, sym (t .seal), signature-back (r .signature) (t .signature)) refl
 
 -- A transfer changes nothing of a key but its slot.
 slot-changed : (o : Outcome) (k : Key) (taken written : ℕ) (e : Slot) → let t = transferResultBy o k taken written e in t .key ≡ withSlot k (t .key .slot)
@@ -188,6 +189,7 @@ record SessionTold (r : CSession) : Type 0 where
   pub seal : r .seal ≡ sessionSeal
   pub input : sideToC (sideFromC (r .input)) ≡ r .input
   pub output : sideToC (sideFromC (r .output)) ≡ r .output
+  pub spare : r .spare ≡ 0
   pub error : r .error ≡ errorNumbers (slotFromNumbers (r .error))
   pub sessionValid : sessionValid (sessionFromC r) ≡ true
 
@@ -196,15 +198,17 @@ told : (r : CSession) → cSessionValid r ≡ true → SessionTold r
 unfolding cSessionValid
 told r h =
     let a = both (cKeyValid (r .key)) _ h in
-    let b = both (eqb (r .seal) sessionSeal && cSideValid (r .input) && cSideValid (r .output) && errorValid (r .error)) (sessionValid (sessionFromC r)) (a .1) in
-    let c = both (eqb (r .seal) sessionSeal && cSideValid (r .input) && cSideValid (r .output)) (errorValid (r .error)) (b .0) in
-    let d = both (eqb (r .seal) sessionSeal && cSideValid (r .input)) (cSideValid (r .output)) (c .0) in
+    let b = both (eqb (r .seal) sessionSeal && cSideValid (r .input) && cSideValid (r .output) && eqb (r .spare) 0 && errorValid (r .error)) (sessionValid (sessionFromC r)) (a .1) in
+    let c = both (eqb (r .seal) sessionSeal && cSideValid (r .input) && cSideValid (r .output) && eqb (r .spare) 0) (errorValid (r .error)) (b .0) in
+    let e = both (eqb (r .seal) sessionSeal && cSideValid (r .input) && cSideValid (r .output)) (eqb (r .spare) 0) (c .0) in
+    let d = both (eqb (r .seal) sessionSeal && cSideValid (r .input)) (cSideValid (r .output)) (e .0) in
     let f = both (eqb (r .seal) sessionSeal) (cSideValid (r .input)) (d .0) in
     record {
       key = a .0;
       seal = eqb-true (r .seal) sessionSeal (f .0);
       input = side-back (r .input) (f .1);
       output = side-back (r .output) (d .1);
+      spare = eqb-true (r .spare) 0 (e .1);
       error = alike-told (r .error) (errorNumbers (slotFromNumbers (r .error))) (c .1);
       sessionValid = b .1;
     }
@@ -219,7 +223,7 @@ session-told r h e =
 pub session-back : (r : CSession) → cSessionValid r ≡ true → sessionToC (sessionFromC r) ≡ r
 session-back r h =
     let t = told r h in
-    rw (key-back (r .key) (t .key), sym (t .error), t .input, t .output, sym (t .seal)) refl
+    rw (key-back (r .key) (t .key), sym (t .error), t .input, t .output, sym (t .seal), sym (t .spare)) refl
 
 -- A packet changes nothing of a session but its progress.
 pub packet-result-session : (s : Session) (n : ℕ) (bytes : List ℕ) → let p = packetResult s n bytes in p .session ≡ withProgress s (p .session .progress)

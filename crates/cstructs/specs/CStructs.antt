@@ -35,11 +35,11 @@ use Rattle.cstructs.specs.declared.CSession.{CSession}
 
 -- A key's first word. Its lowest byte is the version of the structs.
 abbrev pub keySeal : ℕ
-keySeal = 0x4741524F4B455902
+keySeal = 0x4741524F4B455903
 
 -- A session's first word.
 abbrev pub sessionSeal : ℕ
-sessionSeal = 0x4741524F53455302
+sessionSeal = 0x4741524F53455303
 
 -- ---- signatures and configurations
 
@@ -79,15 +79,21 @@ unfoldable pub slotFromNumbers : (n : ErrorNumbers) → Slot
 slotFromNumbers n =
     cond (eqb (n .«error_type») 0) Empty
     (Holding (record {
-      mismatch = record { tag = tagOf (n .«error_type»); actual = n .actual; expected = n .expected };
+      mismatch = record {
+        tag = tagOf (n .«error_type»);
+        actual = n .actual;
+        expected = n .expected;
+        differing = n .differing;
+      };
       offset = n .offset;
     }))
 
--- All four numbers are the same.
+-- All five numbers are the same.
 abbrev pub alike : (m n : ErrorNumbers) → Bool
 alike m n =
     eqb (m .«error_type») (n .«error_type») && eqb (m .actual) (n .actual)
     && eqb (m .expected) (n .expected) && eqb (m .offset) (n .offset)
+    && eqb (m .differing) (n .differing)
 
 -- The numbers are those of a slot: converting them to a slot and back gives them again.
 abbrev pub errorValid : (n : ErrorNumbers) → Bool
@@ -122,7 +128,6 @@ keyToC k = record {
   signature = signatureToC (k .signature);
   configured = flag (k .configured);
   error = errorNumbers (k .slot);
-  spare = 0;
 }
 
 -- A key that was never configured holds no error.
@@ -133,7 +138,7 @@ configuredOrEmpty k = eqb (k .configured) 1 || eqb (k .error .«error_type») 0
 -- calls, and it holds no error if it was never configured.
 unfoldable pub cKeyValid : (k : CKey) → Bool
 cKeyValid k =
-    eqb (k .seal) keySeal && isFlag (k .configured) && eqb (k .signature .spare) 0 && eqb (k .spare) 0
+    eqb (k .seal) keySeal && isFlag (k .configured) && eqb (k .signature .spare) 0
     && errorValid (k .error) && configuredOrEmpty k && keyValid (keyFromC k)
 
 -- ---- sessions
@@ -175,6 +180,7 @@ sessionToC s = record {
   output = sideToC (s .progress .output);
   error = errorNumbers (s .progress .slot);
   held = s .progress .held;
+  spare = 0;
 }
 
 -- A C struct is a session if its key is valid, it has the seal, converting it and back gives it again, and the session
@@ -182,8 +188,8 @@ sessionToC s = record {
 unfoldable pub cSessionValid : (s : CSession) → Bool
 cSessionValid s =
     cKeyValid (s .key)
-    && (eqb (s .seal) sessionSeal && cSideValid (s .input) && cSideValid (s .output) && errorValid (s .error)
-    && sessionValid (sessionFromC s))
+    && (eqb (s .seal) sessionSeal && cSideValid (s .input) && cSideValid (s .output) && eqb (s .spare) 0
+    && errorValid (s .error) && sessionValid (sessionFromC s))
 
 -- ---- what is returned where there is no key or no session
 
@@ -196,7 +202,6 @@ unsealed k = record {
   signature = k .signature;
   configured = k .configured;
   error = k .error;
-  spare = k .spare;
 }
 
 -- A C struct that is no session: it has no seal.
@@ -212,4 +217,5 @@ noSession k =
       output = side;
       error = noError;
       held = replicate fieldBytes 0;
+      spare = 0;
     }

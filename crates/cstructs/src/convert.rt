@@ -53,6 +53,7 @@ pub(crate) fn slot_from_numbers(n: ErrorNumbers) -> Slot
         tag,
         actual: n.actual,
         expected: n.expected,
+        differing: n.differing,
     };
     Slot::Holding(Error {
         mismatch,
@@ -133,7 +134,6 @@ pub fn key_to_c(k: Key) -> CKey
         signature,
         configured: flag(k.configured),
         error,
-        spare: 0,
     }
 }
 
@@ -210,7 +210,7 @@ pub fn session_from_c(s: CSession) -> Session
 
 // Returns the struct with another progress, which is all that a packet changes.
 pub fn with_progress(session: CSession, progress: Progress) -> CSession
-    requires { ⌜ (session .seal ≡ cstructs.sessionSeal) × (cstructs.keyToC (cstructs.keyFromC (session .key)) ≡ session .key) ⌝ }
+    requires { ⌜ cstructs.sessionToC (cstructs.sessionFromC session) ≡ session ⌝ }
     ensures { λ s. ⌜ s ≡ cstructs.sessionToC (withProgress (cstructs.sessionFromC session) progress) ⌝ }
 {
     let held = progress.held;
@@ -246,6 +246,7 @@ pub fn no_session(key: CKey) -> CSession
         output: side,
         error: slot::no_error(),
         held: [0; FIELD_SIZE],
+        spare: 0,
     }
 }
 

@@ -20,9 +20,9 @@ pub use validate::c_session_valid;
 pub use validate::c_session_valid_given_key;
 
 // The first words of a key and of a session. The lowest byte is the version of the structs.
-pub(crate) const KEY_SEAL: u64 = 0x4741524F4B455902;
+pub(crate) const KEY_SEAL: u64 = 0x4741524F4B455903;
 
-pub(crate) const SESSION_SEAL: u64 = 0x4741524F53455302;
+pub(crate) const SESSION_SEAL: u64 = 0x4741524F53455303;
 
 #[repr(C)]
 pub struct CSignature {
@@ -48,7 +48,6 @@ pub struct CKey {
     pub signature: CSignature,
     pub configured: u32,
     pub error: ErrorNumbers,
-    pub spare: u32,
 }
 
 // The position in a stream: the number of the current block, the offset in its unit, and the running guard.
@@ -71,4 +70,5 @@ pub struct CSession {
     pub output: CSide,
     pub error: ErrorNumbers,
     pub held: [u8; FIELD_SIZE],
+    pub spare: u32,
 }

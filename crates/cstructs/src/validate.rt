@@ -12,7 +12,7 @@ use crate::SESSION_SEAL;
 use crate::convert;
 use slot::ErrorNumbers;
 
-// True if all four numbers are the same.
+// True if all five numbers are the same.
 fn alike(m: ErrorNumbers, n: ErrorNumbers) -> bool
     ensures { λ r. ⌜ r ≡ cstructs.alike m n ⌝ }
 {
@@ -20,6 +20,7 @@ fn alike(m: ErrorNumbers, n: ErrorNumbers) -> bool
         & (m.actual == n.actual)
         & (m.expected == n.expected)
         & (m.offset == n.offset)
+        & (m.differing == n.differing)
 }
 
 // True if the numbers are those of a slot: converting them to a slot and back gives them again.
@@ -50,7 +51,6 @@ pub fn c_key_valid(k: CKey) -> bool
     let whole = (k.seal == KEY_SEAL) & is_flag(k.configured) & (k.signature.spare == 0);
     let configured_or_empty = (k.configured == 1) | (k.error.error_type == 0);
     whole
-        & (k.spare == 0)
         & error_valid(k.error)
         & configured_or_empty
         & key::fields_valid(
@@ -68,7 +68,10 @@ pub fn c_session_valid_given_key(s: CSession) -> bool
     ensures { λ r. ⌜ (r ≡ cstructs.cSessionValid s) × (length (s .held) ≡ fieldBytes) ⌝ }
 {
     let whole = (s.seal == SESSION_SEAL) & c_side_valid(s.input) & c_side_valid(s.output);
-    whole & error_valid(s.error) & packets::session_valid(convert::session_from_c(s))
+    whole
+        & (s.spare == 0)
+        & error_valid(s.error)
+        & packets::session_valid(convert::session_from_c(s))
 }
 
 // True if the struct is a session.

@@ -26,6 +26,7 @@ fn print(answer: Answer) {
             print_spaced(f.actual as u64);
             print_spaced(f.expected as u64);
             print_spaced(f.offset as u64);
+            print_spaced(f.differing as u64);
         }
     }
     io::write_all(STDOUT_FILENO, b"\n");

@@ -1,4 +1,4 @@
--- Checking a found field (01, "The transfer rule", "Escape" and "Error slot"; 02, request 2).
+-- Checking a found field (01, "The transfer rule", "Escape" and "Error slot"; 02, requests 2 and 6).
 --
 --   escapeApplicationTag, escapeReferenceTag    the tags that escape a block
 --   escaped d found                     the found field escapes its block
@@ -6,12 +6,14 @@
 --   differs checks found computed       which of the checked bytes differ
 --   digit b, maskOf n set               a bit as a number, and a set of bytes as a mask
 --   differing mask found computed       the set of differing checked bytes, as a mask
---   mismatch tag computed found         a wrong tag with both its values
+--   bitsOf tag set                      the bits of a mask that stand for a tag's bytes
+--   valueOf tag field                   a tag's value in a field
+--   mismatch tag set computed found     a wrong tag with both its values and its differing bytes
 --   firstBad set computed found         the first wrong tag, given the set of differing bytes
 --   judged d mask i guard found         the judgement of the field found after block i
 use mathlib.Core.Bool.{Bool, true, false, _&&_, _||_, not, cond}
 use mathlib.Core.List.{List, [], _∷_}
-use Prim.Native.Nat.{ℕ, _+_, _*_, _%_}
+use Prim.Native.Nat.{ℕ, _+_, _*_, _/_, _%_}
 use lib.Dec.{eqb, ltb, leb}
 use Rattle.field.specs.declared.Domain.{Domain}
 use Rattle.field.specs.declared.ProtectionField.{ProtectionField}
@@ -63,22 +65,35 @@ maskOf n (b ∷ bs) = maskOf (n * 2 + digit b) bs
 unfoldable pub differing : (mask : ℕ) (found computed : ProtectionField) → ℕ
 differing mask found computed = maskOf 0 (differs (bytesIn mask) (bytesOf found) (bytesOf computed))
 
--- The whole of a tag, unmasked: actual is what the rule computes, expected what was found.
-abbrev pub mismatch : (tag : Tag) (computed found : ProtectionField) → Mismatch
-mismatch Guard computed found =
-    record { tag = Guard; actual = computed .guard; expected = found .guard }
-mismatch Application computed found =
-    record { tag = Application; actual = computed .application; expected = found .application }
-mismatch Reference computed found =
-    record { tag = Reference; actual = computed .reference; expected = found .reference }
+-- The bits of a mask that stand for a tag's bytes: bits 7 and 6 for the guard, 5 and 4 for the application tag, the
+-- others for the reference tag.
+abbrev pub bitsOf : (tag : Tag) (set : ℕ) → ℕ
+bitsOf Guard set = set / lowestGuardBit * lowestGuardBit
+bitsOf Application set = set % lowestGuardBit / lowestApplicationBit * lowestApplicationBit
+bitsOf Reference set = set % lowestApplicationBit
 
--- The first wrong tag, given the set of differing bytes: bits 7 and 6 are the guard's, 5 and 4 the application tag's,
--- the others the reference tag's.
+-- A tag's value in a field.
+abbrev pub valueOf : (tag : Tag) (field : ProtectionField) → ℕ
+valueOf Guard f = f .guard
+valueOf Application f = f .application
+valueOf Reference f = f .reference
+
+-- The whole of a tag, unmasked: actual is what the rule computes, expected what was found. Of the set of differing
+-- bytes it holds the tag's own, "only the reported field's bits" (02, request 6).
+abbrev pub mismatch : (tag : Tag) (set : ℕ) (computed found : ProtectionField) → Mismatch
+mismatch tag set computed found = record {
+  tag = tag;
+  actual = valueOf tag computed;
+  expected = valueOf tag found;
+  differing = bitsOf tag set;
+}
+
+-- The first wrong tag, given the set of differing bytes.
 unfoldable pub firstBad : (set : ℕ) (computed found : ProtectionField) → Judgement
 firstBad set computed found =
-    cond (leb lowestGuardBit set) (Bad (mismatch Guard computed found))
-    (cond (leb lowestApplicationBit (set % lowestGuardBit)) (Bad (mismatch Application computed found))
-    (cond (ltb 0 (set % lowestApplicationBit)) (Bad (mismatch Reference computed found)) Good))
+    cond (leb lowestGuardBit set) (Bad (mismatch Guard set computed found))
+    (cond (leb lowestApplicationBit (set % lowestGuardBit)) (Bad (mismatch Application set computed found))
+    (cond (ltb 0 (set % lowestApplicationBit)) (Bad (mismatch Reference set computed found)) Good))
 
 -- The judgement of the field found after block i, whose data has this guard, under a domain and a check mask.
 unfoldable pub judged : (d : Domain) (mask i guard : ℕ) (found : ProtectionField) → Judgement

@@ -103,7 +103,7 @@ fn checked_mask(d: Domain, mask: u8, found: ProtectionField) -> u8
     if escaped(d, found) { 0 } else { mask }
 }
 
-// Returns the first wrong tag, given the set of differing bytes.
+// Returns the first wrong tag, given the set of differing bytes, of which it keeps that tag's.
 fn first_bad(set: u8, right: ProtectionField, found: ProtectionField) -> Judgement
     ensures { λ r. ⌜ r ≡ judging.firstBad set right found ⌝ }
 {
@@ -112,6 +112,7 @@ fn first_bad(set: u8, right: ProtectionField, found: ProtectionField) -> Judgeme
             tag: Tag::Guard,
             actual: right.guard as u32,
             expected: found.guard as u32,
+            differing: (set / LOWEST_GUARD_BIT * LOWEST_GUARD_BIT) as u32,
         });
     }
     if set % LOWEST_GUARD_BIT >= LOWEST_APPLICATION_BIT {
@@ -119,6 +120,8 @@ fn first_bad(set: u8, right: ProtectionField, found: ProtectionField) -> Judgeme
             tag: Tag::Application,
             actual: right.application as u32,
             expected: found.application as u32,
+            differing: (set % LOWEST_GUARD_BIT / LOWEST_APPLICATION_BIT
+                * LOWEST_APPLICATION_BIT) as u32,
         });
     }
     if set % LOWEST_APPLICATION_BIT > 0 {
@@ -126,6 +129,7 @@ fn first_bad(set: u8, right: ProtectionField, found: ProtectionField) -> Judgeme
             tag: Tag::Reference,
             actual: right.reference,
             expected: found.reference,
+            differing: (set % LOWEST_APPLICATION_BIT) as u32,
         });
     }
     Judgement::Good

@@ -89,11 +89,14 @@ pub enum Tag {
     Reference,
 }
 
-// A tag whose found value differs from the computed one. Actual is what the rule computes, expected what was found.
+// A tag whose found value differs from the computed one. Actual is what the rule computes, expected what was found, and
+// differing the mask of the tag's checked bytes in which they differ. It is a u32, because a u8 would leave bytes of
+// padding in an error slot.
 pub struct Mismatch {
     pub tag: Tag,
     pub actual: u32,
     pub expected: u32,
+    pub differing: u32,
 }
 
 pub enum Judgement {

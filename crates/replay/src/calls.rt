@@ -107,6 +107,7 @@ fn check(state: State) -> State {
     lines::print_number(error.actual as u64);
     lines::print_number(error.expected as u64);
     lines::print_number(error.offset as u64);
+    lines::print_number(error.differing as u64);
     let key = c.key;
     let session = state.session;
     State { key, session }

@@ -1,4 +1,4 @@
--- The error slot (01, "Error slot").
+-- The error slot (01, "Error slot"; 02, request 6).
 --
 --   guardError, referenceError, applicationError    01's error types
 --   errorType tag                                   the error type of a wrong tag
@@ -30,9 +30,10 @@ errorType Application = applicationError
 
 -- The numbers of an empty slot.
 abbrev pub noError : ErrorNumbers
-noError = record { «error_type» = 0; actual = 0; expected = 0; offset = 0 }
+noError = record { «error_type» = 0; actual = 0; expected = 0; offset = 0; differing = 0 }
 
--- The numbers that check returns for a slot: actual is what the rule computes, expected what was found.
+-- The numbers that check returns for a slot: actual is what the rule computes, expected what was found, differing the
+-- mask of the reported tag's checked bytes in which they differ.
 unfoldable pub errorNumbers : (slot : Slot) → ErrorNumbers
 errorNumbers Empty = noError
 errorNumbers (Holding e) = record {
@@ -40,6 +41,7 @@ errorNumbers (Holding e) = record {
   actual = e .mismatch .actual;
   expected = e .mismatch .expected;
   offset = e .offset;
+  differing = e .mismatch .differing;
 }
 
 -- A slot keeps its first error.

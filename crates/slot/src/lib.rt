@@ -16,13 +16,14 @@ pub enum Slot {
     Holding(Error),
 }
 
-// An error slot as check returns it and as C sees it: all numbers are 0 if the slot is empty.
+// An error slot as check returns it and as C sees it: all five numbers are 0 if the slot is empty.
 #[repr(C)]
 pub struct ErrorNumbers {
     pub error_type: u32,
     pub actual: u32,
     pub expected: u32,
     pub offset: u32,
+    pub differing: u32,
 }
 
 // 01's error types. They don't follow the order of the tags in the field.
@@ -52,6 +53,7 @@ pub fn no_error() -> ErrorNumbers
         actual: 0,
         expected: 0,
         offset: 0,
+        differing: 0,
     }
 }
 
@@ -69,6 +71,7 @@ pub fn error_numbers(slot: Slot) -> ErrorNumbers
                 actual: mismatch.actual,
                 expected: mismatch.expected,
                 offset: e.offset,
+                differing: mismatch.differing,
             }
         }
     }

@@ -1,8 +1,7 @@
 -- Packet changes only the progress of the session, so the C struct with the new progress is that of the returned
 -- session.
-use mathlib.Core.Path.{_≡_, refl, ap, sym, _∙_}
+use mathlib.Core.Path.{_≡_, refl, sym, _∙_}
 use mathlib.Core.Bool.{true}
-use Rattle.cstructs.specs.declared.CSession.{CSession}
 use Rattle.cstructs.specs.CStructs.{cSessionValid}
 use Rattle.capi.specs.Calls.{cPacket, memoryAfterCPacket}
 use Rattle.cstructs.proofs.Laws.{session-told, session-back, packet-result-session}
@@ -26,9 +25,7 @@ packet-requires : tie.Need-packet-requires
 packet-requires c κs = rw (c .before .session-from-c .ensures) (session-told _ (passes (c .before .before)) (c .before .before .before .c-session-valid-given-key .ensures .1))
 
 with-progress-requires : tie.Need-with-progress-requires
-with-progress-requires c κs =
-    let e = session-back _ (passes (c .before .before .before .before .before .before .before)) in
-    (sym (ap (λ (r : CSession). r .seal) e), ap (λ (r : CSession). r .key) e)
+with-progress-requires c κs = session-back _ (passes (c .before .before .before .before .before .before .before))
 
 number-requires : tie.Need-number-requires
 number-requires c κs = search needs

@@ -1,7 +1,8 @@
 -- The struct of `no_session` has the session's key, and all its other fields are overwritten.
 use mathlib.Core.Path.{refl, ap, _∙_}
 use Rattle.key.specs.declared.Key.{Key}
-use Rattle.cstructs.specs.CStructs.{keyToC}
+use Rattle.slot.specs.Slots.{errorNumbers}
+use Rattle.cstructs.specs.CStructs.{slotFromNumbers, keyToC}
 use Rattle.cstructs.proofs.Laws.{key-round}
 use borrow.Author.Needs.{needs}
 use Rattle.cstructs.proofs.convert.session_to_c.Statement.{statement}
@@ -17,8 +18,9 @@ number-requires : tie.Need-number-requires
 number-requires c κs = search needs
 
 with-progress-requires : tie.Need-with-progress-requires
+unfolding errorNumbers slotFromNumbers
 with-progress-requires c κs =
-    rw (c .before .no-session .ensures, c .before .before .key-to-c .ensures) (refl, ap (λ (k : Key). keyToC k) (key-round (c .before .before .before .before .before .args .session .key)))
+    rw (c .before .no-session .ensures, c .before .before .key-to-c .ensures, ap (λ (k : Key). keyToC k) (key-round (c .before .before .before .before .before .args .session .key))) refl
 
 returns : tie.Need-returns
 returns c =

@@ -18,7 +18,7 @@ fields-valid-requires c κs = search needs
 
 returns : tie.Need-returns
 unfolding cKeyValid keyValid
-returns c = rw (c .fields-valid .ensures, c .before .signature-from-c .ensures, c .before .before .before .error-valid .ensures, c .before .before .before .before .before .before .before .before .is-flag .ensures)
+returns c = rw (c .fields-valid .ensures, c .before .signature-from-c .ensures, c .before .before .before .error-valid .ensures, c .before .before .before .before .before .before .before .is-flag .ensures)
 
 pub c-key-valid-spec : {M : Type 1} → statement M
 c-key-valid-spec =

@@ -17,12 +17,12 @@ session-from-c-requires : tie.Need-session-from-c-requires
 session-from-c-requires c κs = search needs
 
 session-valid-requires : tie.Need-session-valid-requires
-session-valid-requires c κs = rw (c .session-from-c .ensures) (key-told _ (c .before .before .before .before .before .pre) .keyValid)
+session-valid-requires c κs = rw (c .session-from-c .ensures) (key-told _ (c .before .before .before .before .before .before .pre) .keyValid)
 
 returns : tie.Need-returns
 unfolding cSessionValid
 returns c =
-    (rw (c .before .before .before .before .before .before .pre, c .session-valid .ensures .0, c .before .session-from-c .ensures, c .before .before .error-valid .ensures, c .before .before .before .c-side-valid2 .ensures, c .before .before .before .before .c-side-valid .ensures), rw (c .before .session-from-c .ensures) at (c .session-valid .ensures .1))
+    (rw (c .before .before .before .before .before .before .before .pre, c .session-valid .ensures .0, c .before .session-from-c .ensures, c .before .before .error-valid .ensures, c .before .before .before .before .c-side-valid2 .ensures, c .before .before .before .before .before .c-side-valid .ensures), rw (c .before .session-from-c .ensures) at (c .session-valid .ensures .1))
 
 pub c-session-valid-given-key-spec : {M : Type 1} → statement M
 c-session-valid-given-key-spec =
