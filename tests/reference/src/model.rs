@@ -1,7 +1,7 @@
-//! The customer's rule book (paper 01, "Signed block transfers") as a program, with request 2 of the customer's change
-//! requests (paper 02). It works byte by byte and in exact numbers, in paper 01's order: it is written to be read
-//! beside the papers, not to be fast. Words in quotation marks are paper 01's own, or paper 02's where that is said.
-//! Nothing here comes from the library or from its proofs.
+//! The customer's rule book (paper 01, "Signed block transfers") as a program, with requests 2 and 6 of the customer's
+//! change requests (paper 02). It works byte by byte and in exact numbers, in paper 01's order: it is written to be
+//! read beside the papers, not to be fast. Words in quotation marks are paper 01's own, or paper 02's where that is
+//! said. Nothing here comes from the library or from its proofs.
 
 use std::ops::Range;
 
@@ -181,13 +181,15 @@ impl Signature {
     }
 }
 
-/// What the error slot holds. "Actual" is what the input domain's rule computes, "expected" what was found.
+/// What the error slot holds. "Actual" is what the input domain's rule computes, "expected" what was found. Paper 02,
+/// request 6, adds `differing`: "The error slot and check carry it as a fifth number".
 #[derive(Clone, Copy, Debug, PartialEq, Eq)]
 pub struct BlockError {
     pub error_type: u64,
     pub actual: u32,
     pub expected: u32,
     pub offset: u64,
+    pub differing: u8,
 }
 
 /// The transfer rule in one direction, from an input stream to an output stream and an error. Each output byte is
@@ -277,8 +279,17 @@ impl Rule {
         let is_bad = |bytes: &Range<usize>| bytes.clone().any(|at| self.is_bad_byte(&computed, &found, at));
         let (error_type, bytes) = fields.into_iter().find(|(_, bytes)| is_bad(bytes))?;
         let offset = (block * self.input.unit(size)) as u64;
-        let (actual, expected) = (number(&computed[bytes.clone()]), number(&found[bytes]));
-        Some(BlockError { error_type, actual, expected, offset })
+        let (actual, expected) = (number(&computed[bytes.clone()]), number(&found[bytes.clone()]));
+        let differing = self.differing(&computed, &found, bytes);
+        Some(BlockError { error_type, actual, expected, offset, differing })
+    }
+
+    /// "the set of differing checked bytes, as an eight-bit mask in 01's bit order", "holding only the reported field's
+    /// bits" (paper 02, request 6). The reported field has these bytes. 01's bit order is that of `mask_bit`: 128
+    /// stands for the first of the eight bytes, and each next byte has half of that.
+    fn differing(&self, computed: &[u8; FIELD_SIZE], found: &[u8; FIELD_SIZE], bytes: Range<usize>) -> u8 {
+        let differing = bytes.filter(|&at| self.is_bad_byte(computed, found, at));
+        differing.map(|at| [128, 64, 32, 16, 8, 4, 2, 1][at]).sum()
     }
 
     /// "a byte whose check bit is set differs from what the input domain's rule gives"
@@ -617,8 +628,10 @@ impl Key {
         self.slot = self.slot.or(error);
     }
 
-    /// Check: "type, actual, expected, offset, and empties it; with no error all four are zero".
-    pub fn check(&mut self) -> [u64; 4] {
+    /// Check: "type, actual, expected, offset, and empties it". The fifth number is `differing`, and it too is "zero
+    /// without an error" (paper 02, request 6). So a key that was never configured gets five zeros in place of 01's
+    /// four.
+    pub fn check(&mut self) -> [u64; 5] {
         check_numbers(self.slot.take())
     }
 
@@ -630,9 +643,12 @@ impl Key {
     }
 }
 
-/// The four numbers that check returns for a slot.
-pub fn check_numbers(slot: Option<BlockError>) -> [u64; 4] {
-    slot.map_or([0; 4], |error| [error.error_type, error.actual.into(), error.expected.into(), error.offset])
+/// The five numbers that check returns for a slot.
+pub fn check_numbers(slot: Option<BlockError>) -> [u64; 5] {
+    slot.map_or([0; 5], |error| {
+        let BlockError { error_type, actual, expected, offset, differing } = error;
+        [error_type, actual.into(), expected.into(), offset, differing.into()]
+    })
 }
 
 // Packets

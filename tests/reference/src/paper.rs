@@ -26,17 +26,19 @@ impl Findings {
 /// Compares all numbers of the papers.
 pub fn findings() -> Findings {
     let mut findings = Findings::default();
-    let parts: [fn(&mut Findings); 13] = [
+    let parts: [fn(&mut Findings); 15] = [
         sbc_3,
         rfc_1071,
         cases_a_to_d,
         cases_e_to_g,
+        wrong_guards_of_e_to_g,
         cases_h_and_i,
         escaped_blocks,
         escaped_output,
         cases_j_to_l,
         case_m,
         case_n,
+        differing_in_j_to_n,
         sizes,
         reasonable_errors,
         huge_lengths,
@@ -81,7 +83,7 @@ fn key(length: usize, signature: Signature) -> Key {
 }
 
 /// Receives two blocks of 8 bytes from this wire, and returns what check then returns.
-fn check_of(wire: &[u8], signature: Signature) -> [u64; 4] {
+fn check_of(wire: &[u8], signature: Signature) -> [u64; 5] {
     let mut key = key(16, signature);
     assert_eq!(key.receive(&mut [0; 16], wire, 0, 16).answer, answer::DONE);
     key.check()
@@ -110,19 +112,36 @@ fn rfc_1071(findings: &mut Findings) {
     findings.compare("RFC 1071, checksum", 0x220D, checksum_guard(0, &data));
 }
 
+/// Case A's wire, of which "second block ends in 02".
+fn case_c_wire() -> [u8; 32] {
+    let mut wire = CASE_A_WIRE;
+    wire[23] = 0x02;
+    wire
+}
+
+/// Case C's error with the fifth number of paper 02, request 6. The guard's bytes are 9C D9 by rule, and 00 00 was
+/// found: both differ and both are checked. They are the first two of the eight, so bits 7 and 6 are set: 128 + 64 =
+/// 192.
+const CASE_C_ERROR: [u64; 5] = [1, 0x9CD9, 0, 16, 192];
+
+/// 01's cases, and the lines that paper 02, request 6, prints: "case A "0 0 0 0 0"; case C "1 40153 0 16 192"".
 fn cases_a_to_d(findings: &mut Findings) {
     let domain = case_a_domain();
     let mut wire = [0; 32];
     let totals = key(16, signature(domain)).send(&CASE_A_DATA, &mut wire, 0, 16);
     findings.compare("A, wire", CASE_A_WIRE, wire);
     findings.compare("A, totals", Totals { answer: 0, taken: 16, written: 32 }, totals);
-    findings.compare("B", [0; 4], check_of(&CASE_A_WIRE, signature(domain)));
-    let mut damaged = CASE_A_WIRE;
-    damaged[23] = 0x02;
-    findings.compare("C", [1, 0x9CD9, 0, 16], check_of(&damaged, signature(domain)));
-    findings.compare("C, in the small program's decimals", [1, 40153, 0, 16], check_of(&damaged, signature(domain)));
-    let masked = Signature { check_mask: 0x3F, ..signature(domain) };
-    findings.compare("D", [0; 4], check_of(&damaged, masked));
+    findings.compare("B", [0; 5], check_of(&CASE_A_WIRE, signature(domain)));
+    let damaged = case_c_wire();
+    findings.compare("C", CASE_C_ERROR, check_of(&damaged, signature(domain)));
+    let line_of = |wire: &[u8]| check_of(wire, signature(domain)).map(|number| number.to_string()).join(" ");
+    findings.compare("A, the small program's line", "0 0 0 0 0", &line_of(&CASE_A_WIRE));
+    findings.compare("C, the small program's line", "1 40153 0 16 192", &line_of(&damaged));
+    let with_mask = |check_mask: u8| check_of(&damaged, Signature { check_mask, ..signature(domain) });
+    findings.compare("D", [0; 5], with_mask(0x3F));
+    // With one guard bit of D's mask set, the guard is bad again, and the other byte differs unchecked.
+    findings.compare("D with the guard's first byte checked", [1, 0x9CD9, 0, 16, 128], with_mask(0xBF));
+    findings.compare("D with the guard's second byte checked", [1, 0x9CD9, 0, 16, 64], with_mask(0x7F));
 }
 
 fn cases_e_to_g(findings: &mut Findings) {
@@ -132,6 +151,34 @@ fn cases_e_to_g(findings: &mut Findings) {
     findings.compare("F, seed 0", 0xFFF5, checksum_guard(0, &words));
     findings.compare("F, seed 0xFFFF", 0xFFF5, checksum_guard(0xFFFF, &words));
     findings.compare("G", 0xFFFE, checksum_guard(0, &[0xFF, 0xFF, 0x00, 0x01, 0, 0, 0, 0]));
+}
+
+/// Receives blocks with the data of cases E to G, of which a guard is right or that of another of these cases. The
+/// fifth number (paper 02, request 6) follows from the two guards that 01 prints: 0xFFFF and 0 differ in both bytes,
+/// which is 128 + 64. 0xFFF5, 0xFFFE and 0xFFFF have the same first byte, so of these each two differ in the second
+/// alone: 64.
+fn wrong_guards_of_e_to_g(findings: &mut Findings) {
+    let (zeros, words) = ([0; 8], [0x00, 0x01, 0x00, 0x02, 0x00, 0x03, 0x00, 0x04]);
+    let wrapping = [0xFF, 0xFF, 0x00, 0x01, 0x00, 0x00, 0x00, 0x00];
+    let table = [
+        ("E, seed 0, right", 0, zeros, 0xFFFF, [0; 5]),
+        ("E, seed 0xFFFF, right", 0xFFFF, zeros, 0, [0; 5]),
+        ("E, seed 0, guard of the other seed", 0, zeros, 0, [1, 0xFFFF, 0, 0, 192]),
+        ("E, seed 0xFFFF, guard of the other seed", 0xFFFF, zeros, 0xFFFF, [1, 0, 0xFFFF, 0, 192]),
+        ("F, seed 0, right", 0, words, 0xFFF5, [0; 5]),
+        ("F, seed 0xFFFF, right", 0xFFFF, words, 0xFFF5, [0; 5]),
+        ("F, G's guard", 0, words, 0xFFFE, [1, 0xFFF5, 0xFFFE, 0, 64]),
+        ("G, right", 0, wrapping, 0xFFFE, [0; 5]),
+        ("G, F's guard", 0, wrapping, 0xFFF5, [1, 0xFFFE, 0xFFF5, 0, 64]),
+        ("G, E's guard", 0, wrapping, 0xFFFF, [1, 0xFFFE, 0xFFFF, 0, 64]),
+    ];
+    for (what, seed, data, guard, error) in table {
+        let domain = Domain { guard_type: CHECKSUM, seed, ..case_a_domain() };
+        let field = [&u16::to_be_bytes(guard)[..], &CASE_A_WIRE[10..16]].concat();
+        let mut key = key(8, signature(domain));
+        key.receive(&mut [0; 8], &[&data[..], &field].concat(), 0, 8);
+        findings.compare(what, error, key.check());
+    }
 }
 
 /// Case A's wire with "first block's application field FF FF and its guard wrong". Its reference field is FF FF FF FF.
@@ -149,22 +196,30 @@ fn case_a_with(escape: u32) -> Domain {
 /// "Case H becomes no error; I stays" (paper 02, request 2).
 fn cases_h_and_i(findings: &mut Findings) {
     let escape = signature(case_a_with(APPLICATION_ESCAPE));
-    findings.compare("H", [0; 4], check_of(&case_h_wire(), escape));
-    findings.compare("I", [0; 4], check_of(&case_h_wire(), Signature { check_mask: 0xCF, ..escape }));
+    findings.compare("H", [0; 5], check_of(&case_h_wire(), escape));
+    findings.compare("I", [0; 5], check_of(&case_h_wire(), Signature { check_mask: 0xCF, ..escape }));
 }
 
 /// "Under flags 2 and 4 all three fields of an escaped block are skipped" (paper 02, request 2), on case H's wire. The
-/// error of a block that is not escaped is case C's, or that of the wrong guard: 0x8BB7 is computed, 0 is found.
+/// error of a block that is not escaped is case C's, or that of the wrong guard: 0x8BB7 is computed, 0 is found. Both
+/// of its bytes differ, so the fifth number (request 6) is 128 + 64. If the guard is not checked, it is the application
+/// tag's, which 01 prints for H: 0x1234 is computed, 0xFFFF is found, and both bytes differ, which is 32 + 16.
 fn escaped_blocks(findings: &mut Findings) {
     let by_application = signature(case_a_with(APPLICATION_ESCAPE));
     let by_both = signature(case_a_with(BOTH_ESCAPE));
-    let wrong_guard = [1, 0x8BB7, 0, 0];
+    let wrong_guard = [1, 0x8BB7, 0, 0, 192];
     let wire = case_h_wire();
-    findings.compare("H without its flag", wrong_guard, check_of(&wire, signature(case_a_domain())));
-    findings.compare("H with flag 4", [0; 4], check_of(&wire, by_both));
+    let without_flag = |check_mask: u8| check_of(&wire, Signature { check_mask, ..signature(case_a_domain()) });
+    findings.compare("H without its flag", wrong_guard, without_flag(0xFF));
+    findings.compare("I without its flag", wrong_guard, without_flag(0xCF));
+    findings.compare("H without its flag, tags checked", [3, 0x1234, 0xFFFF, 0, 48], without_flag(0x3F));
+    findings.compare("the same, first byte alone", [3, 0x1234, 0xFFFF, 0, 32], without_flag(0x2F));
+    findings.compare("the same, second byte alone", [3, 0x1234, 0xFFFF, 0, 16], without_flag(0x1F));
+    findings.compare("H without its flag, reference tag checked", [0; 5], without_flag(0x0F));
+    findings.compare("H with flag 4", [0; 5], check_of(&wire, by_both));
     let mut wrong_reference = wire;
     wrong_reference[15] = 0xFE;
-    findings.compare("H, reference tag wrong", [0; 4], check_of(&wrong_reference, by_application));
+    findings.compare("H, reference tag wrong", [0; 5], check_of(&wrong_reference, by_application));
     findings.compare("H with flag 4, reference tag wrong", wrong_guard, check_of(&wrong_reference, by_both));
     let mut nearly = wire;
     nearly[11] = 0xFE;
@@ -174,7 +229,7 @@ fn escaped_blocks(findings: &mut Findings) {
         let nearly = check_of(&nearly, signature);
         findings.compare(&format!("flag {flag}, application field FF FE"), wrong_guard, nearly);
         let later = check_of(&both_damaged, signature);
-        findings.compare(&format!("flag {flag}, C's error after H's block"), [1, 0x9CD9, 0, 16], later);
+        findings.compare(&format!("flag {flag}, C's error after H's block"), CASE_C_ERROR, later);
     }
 }
 
@@ -194,13 +249,15 @@ fn escaped_output(findings: &mut Findings) {
     }
 }
 
+/// "entries (0, 512, 4), (1028, 8, 0), repeat 2", with this start in the second entry.
+fn case_j_with(second_start: u64) -> Configuration {
+    let entries = [Entry { start: 0, count: 512, skip: 4 }, Entry { start: second_start, count: 8, skip: 0 }];
+    let layout = Layout { repeat: 2, ..list_layout(&entries) };
+    Configuration { layout, signature: signature(case_a_domain()) }
+}
+
 fn cases_j_to_l(findings: &mut Findings) {
-    let with_second_start = |start: u64| {
-        let entries = [Entry { start: 0, count: 512, skip: 4 }, Entry { start, count: 8, skip: 0 }];
-        let layout = Layout { repeat: 2, ..list_layout(&entries) };
-        Configuration { layout, signature: signature(case_a_domain()) }
-    };
-    let case_j = with_second_start(1_028);
+    let case_j = case_j_with(1_028);
     let places: Vec<usize> = case_j.layout.places().collect();
     findings.compare("J, answer", 0, case_j.judge(1_044));
     findings.compare("J, total", 1_040, case_j.layout.total());
@@ -208,7 +265,7 @@ fn cases_j_to_l(findings: &mut Findings) {
     findings.compare("J, layout byte 512", 1_028, places[512]);
     findings.compare("J, layout byte 520", 516, places[520]);
     findings.compare("K", 6, case_j.judge(1_043));
-    findings.compare("L", 7, with_second_start(1_027).judge(1_044));
+    findings.compare("L", 7, case_j_with(1_027).judge(1_044));
 }
 
 /// Receives the wire in packets of these lengths, and returns the bytes written after each.
@@ -238,6 +295,38 @@ fn case_n(findings: &mut Findings) {
     findings.compare("N", vec![16, 17], written);
 }
 
+/// The fifth number of check (paper 02, request 6) with the keys of cases J to N. Where 01 prints no damage, C's wire
+/// is received, and neither J's layout nor M's packets enter C's five numbers. K's and L's keys were refused a
+/// configuration, and "Check on a key never configured" has all zeros. In N the wire is unsigned, so nothing is
+/// checked.
+fn differing_in_j_to_n(findings: &mut Findings) {
+    for (what, second_start, length, error) in
+        [("J", 1_028, 1_044, CASE_C_ERROR), ("K", 1_028, 1_043, [0; 5]), ("L", 1_027, 1_044, [0; 5])]
+    {
+        let (mut key, mut memory) = (Key::default(), vec![0; length]);
+        key.configure(&memory, &case_j_with(second_start));
+        key.receive(&mut memory, &case_c_wire(), 508, 16);
+        findings.compare(&format!("{what}, C's wire received"), error, key.check());
+    }
+    let unsigned_wire = Signature { memory: case_a_domain(), check_mask: 0xFF, ..Signature::default() };
+    let table = [
+        ("M", signature(case_a_domain()), &CASE_A_WIRE[..], [0; 5]),
+        ("M, C's wire", signature(case_a_domain()), &case_c_wire(), CASE_C_ERROR),
+        ("N", unsigned_wire, &CASE_A_DATA, [0; 5]),
+    ];
+    for (what, signature, wire, error) in table {
+        let mut memory = [0; 32];
+        let opened = key(memory.len(), signature).open(&memory, 0, 16);
+        let mut session = opened.expect("the paper's transfer is accepted");
+        let (first, rest) = wire.split_at(9);
+        for packet in [&[], first, &[], &rest[..7], &rest[7..]] {
+            session.packet(&mut memory, packet);
+        }
+        let finished = session.finish().map(|mut key| key.check());
+        findings.compare(&format!("{what}, check after finish"), Ok(error), finished);
+    }
+}
+
 fn sizes(findings: &mut Findings) {
     for (block_size, answer) in [(4_160, 0), (4_168, 1), (12, 1), (0, 1)] {
         let domain = Domain { block_size, ..case_a_domain() };
@@ -249,8 +338,7 @@ fn sizes(findings: &mut Findings) {
 
 /// "Errors that look reasonable", each on case A's and C's numbers.
 fn reasonable_errors(findings: &mut Findings) {
-    let mut damaged = CASE_A_WIRE;
-    damaged[23] = 0x02;
+    let damaged = case_c_wire();
     let both = Signature { memory: case_a_domain(), ..signature(case_a_domain()) };
     let mut wire = [0; 32];
     key(32, both).send(&damaged, &mut wire, 0, 16);
@@ -259,7 +347,7 @@ fn reasonable_errors(findings: &mut Findings) {
     key(32, fresh_guard).send(&damaged, &mut wire, 0, 16);
     findings.compare("a generated guard over it", [0x9C, 0xD9], [wire[24], wire[25]]);
     let half_masked = Signature { check_mask: 0x80, ..signature(case_a_domain()) };
-    findings.compare("reported values are not masked", [1, 0x9CD9, 0, 16], check_of(&damaged, half_masked));
+    findings.compare("reported values are not masked", [1, 0x9CD9, 0, 16, 128], check_of(&damaged, half_masked));
     let moved = [&[0xEE; 5], &CASE_A_DATA[..]].concat();
     key(21, signature(case_a_domain())).send(&moved, &mut wire, 5, 16);
     findings.compare("the layout offset doesn't enter the reference tag", CASE_A_WIRE, wire);

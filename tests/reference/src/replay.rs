@@ -81,5 +81,9 @@ mod tests {
         let replay = replay(1);
         let first = replay.answer_file.lines().next().map(|line| line.split(' ').count());
         assert_eq!(first, Some(4), "configure prints its letter, its answer and two digests");
+        let checks: Vec<&str> = replay.answer_file.lines().filter(|line| line.starts_with('K')).collect();
+        assert!(checks.len() > 1_000, "{}", checks.len());
+        let mut numbers = checks.iter().map(|line| line.split(' ').count() - 1);
+        assert!(numbers.all(|count| count == 8), "check prints its answer, five numbers and two digests");
     }
 }

@@ -237,7 +237,7 @@ impl Machine {
             Call::Send { .. } | Call::Receive { .. } if !self.sealed => {
                 three_numbers(Totals::refused(answer::NOT_A_KEY))
             }
-            Call::Check if !self.sealed => vec![answer::NOT_A_KEY, 0, 0, 0, 0],
+            Call::Check if !self.sealed => vec![answer::NOT_A_KEY, 0, 0, 0, 0, 0],
             Call::Configure { memory, ref configuration } => {
                 vec![self.key.configure(&self.memory[..memory as usize], configuration)]
             }

@@ -15,7 +15,7 @@ pub struct RawKey {
 #[repr(C)]
 #[derive(Clone, Copy, Debug, PartialEq, Eq)]
 pub struct RawSession {
-    pub words: [u64; 57],
+    pub words: [u64; 58],
 }
 
 impl RawKey {
@@ -37,7 +37,7 @@ impl RawSession {
 }
 
 /// A struct of zeros, which is no session.
-pub const NO_SESSION: RawSession = RawSession { words: [0; 57] };
+pub const NO_SESSION: RawSession = RawSession { words: [0; 58] };
 
 #[repr(C)]
 #[derive(Clone, Copy)]
@@ -92,6 +92,8 @@ pub struct CheckResult {
     pub key: RawKey,
     pub answer: u64,
     pub error: RawError,
+    /// The header says that this is always 0.
+    pub spare: u32,
 }
 
 #[repr(C)]
@@ -100,12 +102,13 @@ pub struct RawError {
     actual: u32,
     expected: u32,
     offset: u32,
+    differing: u32,
 }
 
 impl RawError {
-    /// Type, actual, expected and offset.
-    pub fn numbers(&self) -> [u64; 4] {
-        [self.error_type, self.actual, self.expected, self.offset].map(u64::from)
+    /// Type, actual, expected, offset and the mask of the differing bytes.
+    pub fn numbers(&self) -> [u64; 5] {
+        [self.error_type, self.actual, self.expected, self.offset, self.differing].map(u64::from)
     }
 }
 
@@ -140,18 +143,18 @@ pub struct AbandonResult {
 // The sizes that the header asserts.
 const _: () = {
     assert!(size_of::<RawDomain>() == 24 && size_of::<RawEntry>() == 16 && size_of::<RawConfiguration>() == 320);
-    assert!(size_of::<RawKey>() == 360 && size_of::<RawSession>() == 456);
+    assert!(size_of::<RawKey>() == 360 && size_of::<RawSession>() == 464 && size_of::<RawError>() == 20);
     assert!(
-        size_of::<ConfigureResult>() == 368 && size_of::<TransferResult>() == 384 && size_of::<CheckResult>() == 384
+        size_of::<ConfigureResult>() == 368 && size_of::<TransferResult>() == 384 && size_of::<CheckResult>() == 392
     );
-    assert!(size_of::<OpenResult>() == 824 && size_of::<PacketResult>() == 480);
-    assert!(size_of::<FinishResult>() == 824 && size_of::<AbandonResult>() == 368);
+    assert!(size_of::<OpenResult>() == 832 && size_of::<PacketResult>() == 488);
+    assert!(size_of::<FinishResult>() == 832 && size_of::<AbandonResult>() == 368);
 };
 
 /// The symbol of a call: by the header, its name and the struct version.
 macro_rules! symbol {
     ($name:literal) => {
-        concat!($name, "_v2")
+        concat!($name, "_v3")
     };
 }
 

@@ -19,7 +19,8 @@ pub struct Reply {
     pub numbers: Vec<u64>,
     /// Whether the returned structs are right, as far as that can be told without the model. A refused call must return the
     /// key or session that was passed. Where there is no key to return, after an accepted open and a refused finish or
-    /// abandon, it must be the key with 0 as its seal. After a refused open it must be a session that is refused.
+    /// abandon, it must be the key with 0 as its seal. After a refused open it must be a session that is refused. The
+    /// spare number of check's result must be 0.
     pub structs_right: bool,
 }
 
@@ -95,7 +96,8 @@ impl State {
     fn check(&mut self) -> Reply {
         let done = library::check(self.key);
         let numbers = [&[done.answer], &done.error.numbers()[..]].concat();
-        self.with_key(done.key, numbers)
+        let reply = self.with_key(done.key, numbers);
+        Reply { structs_right: reply.structs_right && done.spare == 0, ..reply }
     }
 
     /// The key becomes the returned one. An accepted open also returns a session, which is kept; otherwise the caller's own

@@ -1,4 +1,5 @@
-//! What the papers say of packets as a whole and of escaped blocks, tested on the model with random transfers.
+//! What the papers say of packets as a whole, of escaped blocks and of the differing bytes, tested on the model with
+//! random transfers.
 
 use super::*;
 use crate::cases::random::plans;
@@ -125,4 +126,112 @@ fn an_escaped_block_counts_as_a_right_one() {
         later_errors += usize::from(error.is_some_and(|error| error.offset as usize > field));
     }
     assert!(later_errors > 100, "{later_errors}");
+}
+
+/// The bits of the reported field in a mask.
+fn field_bits(error: &BlockError) -> u8 {
+    match error.error_type {
+        GUARD_ERROR => 0b1100_0000,
+        APPLICATION_ERROR => 0b0011_0000,
+        _ => 0b0000_1111,
+    }
+}
+
+/// Puts a right field after each block of the wire, and then changes some bytes of some fields.
+fn write_nearly_right_fields(rng: &mut Rng, rule: &Rule, wire: &mut [u8]) {
+    let size = rule.input.block_size as usize;
+    for block in 0..wire.len() / rule.input.unit(size) {
+        let (field, changed) = (block * rule.input.unit(size) + size, rng.byte() & rng.byte());
+        for at in 0..FIELD_SIZE {
+            let right = rule.input.field_byte(rule.data(wire, block, size), block, at);
+            let inverted = if mask_bit(changed, at) { rng.between(1, 255) as u8 } else { 0 };
+            wire[field + at] = right ^ inverted;
+        }
+    }
+}
+
+/// Returns the errors of random wires with nearly right fields, each with its rule, its wire and the data length.
+fn errors_of_nearly_right_wires(seed: u64) -> Vec<(BlockError, Rule, Vec<u8>, u64)> {
+    let mut rng = Rng::new(seed);
+    let mut errors = Vec::new();
+    for _ in 0..2_000 {
+        let Scene { plan, mut wire, .. } = scene(&mut rng);
+        let rule = Rule::receive(plan.signature());
+        if rule.input.signed() {
+            write_nearly_right_fields(&mut rng, &rule, &mut wire);
+            let error = rule.error(&wire, plan.data_length);
+            errors.extend(error.map(|error| (error, rule, wire, plan.data_length)));
+        }
+    }
+    assert!(errors.len() > 500, "{}", errors.len());
+    errors
+}
+
+/// The two reported numbers differ in the bytes of the set, and in no other byte that is checked. Every set occurs.
+#[test]
+fn the_set_is_that_of_the_reported_numbers() {
+    let mut seen = [0; 256];
+    for (error, rule, _, _) in errors_of_nearly_right_wires(9) {
+        let last_bit = field_bits(&error).trailing_zeros();
+        let bytes = (error.actual ^ error.expected).to_le_bytes();
+        let differing = (0..4).filter(|&at| bytes[at] != 0).fold(0, |mask: u8, at| mask | 1 << at);
+        assert_eq!(error.differing, differing << last_bit & rule.check_mask, "{error:?}");
+        assert_ne!(error.differing, 0, "{error:?}");
+        seen[error.differing as usize] += 1;
+    }
+    let every_set = (1..=15).chain([0x10, 0x20, 0x30, 0x40, 0x80, 0xC0]);
+    assert!(every_set.clone().all(|set: usize| seen[set] > 0), "{seen:?}");
+    assert_eq!(seen.iter().filter(|&&times| times > 0).count(), every_set.count());
+}
+
+/// "the set of differing checked bytes" (paper 02, request 6): if one bit of the reported field alone is checked, the
+/// same field is bad exactly if this bit is in the set, and it is then the whole set.
+#[test]
+fn each_byte_of_the_set_is_bad_by_itself() {
+    for (error, rule, wire, data_length) in errors_of_nearly_right_wires(10) {
+        let checked = field_bits(&error) & rule.check_mask;
+        for bit in (0..8).map(|bit| 1 << bit).filter(|bit| checked & bit != 0) {
+            let alone = Rule { check_mask: bit, ..rule }.error(&wire, data_length);
+            let same_field = alone.filter(|alone| (alone.error_type, alone.offset) == (error.error_type, error.offset));
+            let in_set = error.differing & bit != 0;
+            assert_eq!(same_field, in_set.then_some(BlockError { differing: bit, ..error }));
+        }
+    }
+}
+
+/// "holding only the reported field's bits" (paper 02, request 6): neither a later field of the block nor a later block
+/// adds to the set, whether it is right or wrong in all its bytes.
+#[test]
+fn what_comes_later_adds_nothing() {
+    for (error, rule, wire, data_length) in errors_of_nearly_right_wires(11) {
+        let size = rule.input.block_size as usize;
+        let bits = field_bits(&error);
+        let after_field = error.offset as usize + size + FIELD_SIZE - bits.trailing_zeros() as usize;
+        let later_bits = (1 << bits.trailing_zeros()) - 1;
+        let without_later_bits = Rule { check_mask: rule.check_mask & !later_bits, ..rule };
+        assert_eq!(without_later_bits.error(&wire, data_length), Some(error));
+        let mut inverted = wire.clone();
+        inverted[after_field..].iter_mut().for_each(|byte| *byte = !*byte);
+        let found = rule.found(&inverted, error.offset as usize / rule.input.unit(size), size);
+        if !rule.input.escapes(&found) {
+            assert_eq!(rule.error(&inverted, data_length), Some(error));
+        }
+    }
+}
+
+/// Check returns the set once: a later error does not change it while it is kept, and has its own after the check.
+#[test]
+fn the_set_is_kept_until_check() {
+    let errors = errors_of_nearly_right_wires(12);
+    for pair in errors.windows(2) {
+        let [(first, ..), (second, ..)] = pair else { unreachable!("a window has two errors") };
+        let mut key = Key::default();
+        assert_eq!(key.check(), [0; 5]);
+        key.record(Some(*first));
+        key.record(Some(*second));
+        assert_eq!(key.check()[4], u64::from(first.differing));
+        assert_eq!(key.check(), [0; 5]);
+        key.record(Some(*second));
+        assert_eq!(key.check()[4], u64::from(second.differing));
+    }
 }

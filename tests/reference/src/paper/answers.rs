@@ -146,15 +146,22 @@ fn packets(findings: &mut Findings) {
     findings.compare("an empty one", (0, 32, 16, None), packet(16, &[]));
 }
 
-/// "the first bad block's first bad field, in the order guard, application, reference", kept until it is checked.
+/// "the first bad block's first bad field, in the order guard, application, reference", kept until it is checked. The
+/// fifth number (paper 02, request 6) has the bits of the reported field alone. Bytes BA stand in place of 00 00, 12 34
+/// and 00 00 00 00, so all bytes of the second block's field differ: 128 + 64 for the guard, 32 + 16 for the
+/// application tag, 15 for the reference tag. In the first block only the reference tag's last byte differs, which is
+/// 1.
 fn slot(findings: &mut Findings) {
     let mut wire = CASE_A_WIRE;
     wire[24..].fill(0xBA);
-    findings.compare("guard first", [1, 0, 0xBABA, 16], check_of(&wire, signature(case_a_domain())));
-    let tags = Signature { check_mask: 0x3F, ..signature(case_a_domain()) };
-    findings.compare("then application", [3, 0x1234, 0xBABA, 16], check_of(&wire, tags));
+    let with_mask = |check_mask: u8| check_of(&wire, Signature { check_mask, ..signature(case_a_domain()) });
+    findings.compare("guard first", [1, 0, 0xBABA, 16, 192], with_mask(0xFF));
+    findings.compare("then application", [3, 0x1234, 0xBABA, 16, 48], with_mask(0x3F));
+    findings.compare("its first byte alone", [3, 0x1234, 0xBABA, 16, 32], with_mask(0x2F));
+    findings.compare("then reference", [2, 0, 0xBABA_BABA, 16, 15], with_mask(0x0F));
+    findings.compare("its middle bytes alone", [2, 0, 0xBABA_BABA, 16, 6], with_mask(0x06));
     wire[15] = 0xFE;
-    let earlier = [2, 0xFFFF_FFFF, 0xFFFF_FFFE, 0];
+    let earlier = [2, 0xFFFF_FFFF, 0xFFFF_FFFE, 0, 1];
     findings.compare("an earlier block first", earlier, check_of(&wire, signature(case_a_domain())));
     let mut key = key(16, signature(case_a_domain()));
     key.receive(&mut [0; 16], &wire, 0, 16);
@@ -162,5 +169,6 @@ fn slot(findings: &mut Findings) {
     key.receive(&mut [0; 16], &wire, 0, 16);
     key.configure(&[0; 8], &configuration(signature(case_a_domain())));
     findings.compare("kept through a transfer and configure", earlier, key.check());
-    findings.compare("emptied by check", [0; 4], key.check());
+    findings.compare("emptied by check", [0; 5], key.check());
+    findings.compare("check on a key never configured", [0; 5], Key::default().check());
 }

@@ -169,7 +169,7 @@ mod tests {
             let report = transfer.expect_found(&change(passing, GENERATOR)).unwrap_err();
             assert!(report.contains("block size 8, guard seed 0xffff, "), "{report}");
             assert!(report.contains("first bit 3, pattern 0x18bb7, "), "{report}");
-            assert!(report.ends_with("found: check returns [0, 0, 0, 0]"), "{report}");
+            assert!(report.ends_with("found: check returns [0, 0, 0, 0, 0]"), "{report}");
         }
     }
 

@@ -54,8 +54,8 @@ impl Refusal {
     }
 }
 
-/// The four numbers that check returned (type, actual, expected and offset), or the call that was refused.
-type Checked = Result<[u64; 4], Refusal>;
+/// The five numbers that check returned (type, actual, expected, offset and differing), or the call that was refused.
+type Checked = Result<[u64; 5], Refusal>;
 
 pub struct Transfer {
     signature: Signature,
@@ -131,7 +131,7 @@ impl Transfer {
     }
 
     fn expect_no_error(&self, checked: &Checked, change: &str) -> Result<(), String> {
-        let no_error = [0; 4];
+        let no_error = [0; 5];
         if *checked == Ok(no_error) {
             return Ok(());
         }
@@ -139,11 +139,12 @@ impl Transfer {
     }
 
     /// Receives the transfer with a change. Returns a report unless check finds the changed block's guard bad: it must
-    /// return the model's CRC of the changed data as actual and the old guard as expected, and the two must differ.
+    /// return the model's CRC of the changed data as actual and the old guard as expected, and the two must differ. The
+    /// fifth number must be the mask of the guard bytes in which they differ.
     pub fn expect_found(&mut self, change: &Change) -> Result<(), String> {
         let (crc, checked) = self.receive_changed(change);
         let (guard, offset) = (self.guard(change.block), self.offset(change.block) as u64);
-        let bad_guard = [GUARD_ERROR, crc.into(), guard.into(), offset];
+        let bad_guard = [GUARD_ERROR, crc.into(), guard.into(), offset, differing_guard_bytes(crc, guard)];
         if crc != guard && checked == Ok(bad_guard) {
             return Ok(());
         }
@@ -213,6 +214,14 @@ impl Transfer {
         self.key = finished.key;
         accepted("finish", finished.answer)
     }
+}
+
+/// Returns the mask of the bytes in which two guards differ: 128 for the first byte, 64 for the second. Both guard bits
+/// of the check mask are set in every transfer.
+fn differing_guard_bytes(actual: u16, expected: u16) -> u64 {
+    let first = if actual / 256 == expected / 256 { 0 } else { 128 };
+    let second = if actual % 256 == expected % 256 { 0 } else { 64 };
+    first + second
 }
 
 fn accepted(call: &'static str, answer: u64) -> Result<(), Refusal> {
