@@ -11,7 +11,7 @@ mod library;
 mod state;
 mod trial;
 
-use crate::cases::{random, settled};
+use crate::cases::{random, settled, Case};
 use guarded::Lending;
 use hostile::HostileCase;
 use std::io::{stderr, IsTerminal, PipeWriter, Write};
@@ -63,8 +63,10 @@ pub fn live(run: &Run) -> Result<(), String> {
 }
 
 fn settled_trials() -> Vec<Trial> {
-    let wrong_seals = HostileCase::wrong_seals().into_iter().map(Trial::Hostile);
-    wrong_seals.chain([settled::cases(), settled::large_cases()].concat().into_iter().map(Trial::Compared)).collect()
+    let hostile = |cases: Vec<HostileCase>| cases.into_iter().map(Trial::Hostile).collect::<Vec<_>>();
+    let compared = |cases: Vec<Case>| cases.into_iter().map(Trial::Compared).collect::<Vec<_>>();
+    let (wrong_seals, hand_made) = (hostile(HostileCase::wrong_seals()), hostile(HostileCase::hand_made_sets()));
+    [wrong_seals, compared(settled::cases()), hand_made, compared(settled::large_cases())].concat()
 }
 
 fn random_trial(seed: u64, number: u64) -> Trial {

@@ -188,30 +188,47 @@ mod tests {
     use crate::model::answer;
     use std::collections::BTreeMap;
 
-    /// Counts how often the calls return each answer, and the checks each error type.
-    fn outcomes(cases: u64) -> (BTreeMap<u64, usize>, [usize; 4]) {
-        let (mut answers, mut types) = (BTreeMap::new(), [0; 4]);
+    /// The numbers of times that the calls returned each answer, and the checks each error type and set of bytes.
+    struct Outcomes {
+        answers: BTreeMap<u64, usize>,
+        types: [usize; 4],
+        sets: BTreeMap<u64, usize>,
+    }
+
+    fn outcomes(cases: u64) -> Outcomes {
+        let (mut answers, mut types, mut sets) = (BTreeMap::new(), [0; 4], BTreeMap::new());
         for number in 0..cases {
             let mut machine = Machine::new(BUFFER_SIZE, BUFFER_SIZE);
             for call in case(1, number).calls {
                 match machine.run(&call) {
                     Some(numbers) if call == Call::Check && numbers[0] == answer::DONE => {
                         types[numbers[1] as usize] += 1;
+                        *sets.entry(numbers[5]).or_default() += 1;
                     }
                     Some(numbers) => *answers.entry(numbers[0]).or_default() += 1,
                     None => {}
                 }
             }
         }
-        (answers, types)
+        Outcomes { answers, types, sets }
     }
 
     #[test]
     fn most_random_cases_are_interesting() {
-        let (answers, types) = outcomes(1_000);
+        let Outcomes { answers, types, .. } = outcomes(1_000);
         let wanted = (answer::DONE..=answer::NOT_CONFIGURED).chain([answer::NOT_A_KEY, answer::NOT_A_SESSION]);
         assert_eq!(answers.keys().copied().collect::<Vec<_>>(), wanted.collect::<Vec<_>>());
         assert!(answers[&answer::DONE] > answers.values().sum::<usize>() / 2, "{answers:?}");
         assert!(types.iter().all(|&checks| checks > 50), "{types:?}");
+    }
+
+    /// The checks report each set of differing bytes: 3 of the guard, 3 of the application tag, 15 of the reference
+    /// tag.
+    #[test]
+    fn random_cases_report_every_set_of_differing_bytes() {
+        let Outcomes { sets, .. } = outcomes(4_000);
+        let wanted = (0..=15).chain([0x10, 0x20, 0x30, 0x40, 0x80, 0xC0]);
+        assert_eq!(sets.keys().copied().collect::<Vec<_>>(), wanted.collect::<Vec<_>>());
+        assert!(sets.values().all(|&checks| checks >= 5), "{sets:?}");
     }
 }

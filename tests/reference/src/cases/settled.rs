@@ -1,6 +1,7 @@
 //! Settled cases: the rule book's own, the published vectors, and each rule and answer on both sides of its boundary.
 
 mod answers;
+mod differing;
 mod escapes;
 mod packets;
 mod paper;
@@ -13,7 +14,8 @@ use crate::script::Call;
 
 /// Returns all settled cases that fit the buffers of README.md.
 pub fn cases() -> Vec<Case> {
-    [paper::cases(), answers::cases(), rules::cases(), escapes::cases(), packets::cases()].concat()
+    let parts = [paper::cases, answers::cases, rules::cases, escapes::cases, differing::cases, packets::cases];
+    parts.iter().flat_map(|cases| cases()).collect()
 }
 
 /// Returns the settled cases that need larger buffers.

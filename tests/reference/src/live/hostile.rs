@@ -1,6 +1,6 @@
 //! Hostile cases: calls with structs that no call ever made. They are random bits, random bits after a right seal, or
-//! valid structs with a few bits changed. Which answer such a call returns is left to the library. It must return, must
-//! change nothing that it may not write, and must refuse a wrong seal.
+//! valid structs with a few bits changed. Which answer such a call returns is left to the library, except where the
+//! header says it. The call must return, must change nothing that it may not write, and must refuse a wrong seal.
 
 mod damage;
 
@@ -9,12 +9,13 @@ use super::library::{self, RawKey, RawSession, NO_SESSION};
 use super::state::{Reply, State};
 use super::trial::Fault;
 use crate::cases::random::plans;
-use crate::cases::{Buffers, Direction, Plan};
-use crate::model::answer;
+use crate::cases::{entry, list_layout, Buffers, Direction, Plan};
+use crate::model::{answer, Configuration, Domain, Signature, CHECKSUM, GUARD_ERROR};
+use crate::paper::case_a_domain;
 use crate::rng::Rng;
 use crate::script::{Call, BUFFER_SIZE};
 use crate::shrink::{drop_runs, shrink};
-use damage::{ChangedWord, Damage, WRONG_SEALS};
+use damage::{ChangedWord, Damage, Inverted, WRONG_SEALS};
 
 #[derive(Clone)]
 pub struct HostileCase {
@@ -24,6 +25,17 @@ pub struct HostileCase {
     damage: Damage,
     /// The calls that are made with the damaged key and session.
     calls: Vec<Call>,
+    promise: Promise,
+}
+
+/// What the header says of calls with the damaged structs.
+#[derive(Clone, Copy)]
+enum Promise {
+    Nothing,
+    /// Each call refuses the struct, as no key or no session.
+    Refused,
+    /// Check returns these numbers.
+    Error([u64; 5]),
 }
 
 impl HostileCase {
@@ -33,7 +45,7 @@ impl HostileCase {
         let setup = setup(&mut rng, &plan);
         let calls = (0..rng.between(1, 6)).flat_map(|_| some_calls(&mut rng, &plan)).filter(fits).collect();
         let name = format!("hostile case {number} of seed {seed}");
-        HostileCase { name, setup, damage: Damage::Random(rng), calls }
+        HostileCase { name, setup, damage: Damage::Random(rng), calls, promise: Promise::Nothing }
     }
 
     /// Returns cases that make each call with each wrong seal in an otherwise valid struct.
@@ -46,8 +58,17 @@ impl HostileCase {
             setup: setup.clone(),
             damage: Damage::WrongSeals(wrong),
             calls: calls.clone(),
+            promise: Promise::Nothing,
         };
         (0..WRONG_SEALS).map(case).collect()
+    }
+
+    /// Returns cases with hand-made numbers in structs that are otherwise valid. Without an error, a set of differing
+    /// bytes other than 0 makes the struct no key, or no session, and so does a spare number of a session. With an
+    /// error, any number is taken as its set.
+    pub fn hand_made_sets() -> Vec<HostileCase> {
+        let sets = [1, 0xC0, 0x100, 1 << 31, u32::MAX];
+        sets.into_iter().flat_map(|bits| [refused_structs(bits), error_of_key(bits), error_of_session(bits)]).collect()
     }
 
     /// Returns the number of calls made, or what one of them did that it must not.
@@ -63,7 +84,8 @@ impl HostileCase {
             let Some(reply) = state.run(call) else {
                 continue;
             };
-            judge(call, &seals, &before, &reply, &state).map_err(|words| Fault {
+            let judged = judge(call, &seals, &before, &reply, &state).and_then(|()| self.promise.judge(call, &reply));
+            judged.map_err(|words| Fault {
                 words: words.to_string(),
                 more: format!("answer of {}: {:?}", call.text(), reply.numbers),
             })?;
@@ -81,11 +103,15 @@ impl HostileCase {
     }
 
     /// Returns the case made as small as possible while it still shows its fault. The changed words are drawn here, in
-    /// the parent process, where the library must not fail. So it is first seen whether it fails in the setup.
+    /// the parent process, where the library must not fail. So it is first seen whether it fails in the setup. A case
+    /// with a promise is not made smaller, as the promise is about its damage as a whole.
     pub fn shrunk(&self, lending: Lending, shows: impl Fn(&HostileCase) -> bool) -> HostileCase {
         let bare = HostileCase { calls: Vec::new(), ..self.with_words(&[]) };
         let mut case =
             if shows(&bare) { bare } else { self.with_words(&self.damage.drawn(self.valid_structs(lending))) };
+        if !matches!(case.promise, Promise::Nothing) {
+            return case;
+        }
         loop {
             let before = case.text();
             case.calls = shrink(&case.calls, |calls| shows(&HostileCase { calls: calls.to_vec(), ..case.clone() }));
@@ -106,6 +132,66 @@ impl HostileCase {
         let lines = self.setup.iter().map(Call::text).chain(words).chain(self.calls.iter().map(Call::text));
         lines.map(|line| line + "\n").collect()
     }
+}
+
+impl Promise {
+    /// Returns what the call did against the promise, if anything.
+    fn judge(&self, call: &Call, reply: &Reply) -> Result<(), &'static str> {
+        match self {
+            Promise::Refused if reply.numbers[0] != refusal(call) => {
+                Err("a struct was not refused that the header says is none")
+            }
+            Promise::Error(error)
+                if *call == Call::Check && reply.numbers != [&[answer::DONE], &error[..]].concat() =>
+            {
+                Err("check does not return the numbers in the struct")
+            }
+            _ => Ok(()),
+        }
+    }
+}
+
+/// The transfer of the hand-made cases, a receive of one block of 8 bytes: case A's domain with checksum guards.
+fn one_block() -> Plan {
+    let wire = Domain { guard_type: CHECKSUM, ..case_a_domain() };
+    let signature = Signature { wire, check_mask: 0xFF, ..Signature::default() };
+    let layout = list_layout(&[entry(0, 8, 0)]);
+    Plan { memory: 8, configuration: Configuration { layout, signature }, offset: 0, data_length: 8 }
+}
+
+/// The error of this block if all bytes of wire are zeros: the checksum is 0xFFFF, and both of its bytes differ.
+fn error_of_zeros(bits: u32) -> Promise {
+    Promise::Error([GUARD_ERROR, 0xFFFF, 0, 0, u64::from(0xC0 ^ bits)])
+}
+
+fn hand_made(name: &str, setup: Vec<Call>, inverted: Vec<Inverted>, calls: Vec<Call>, promise: Promise) -> HostileCase {
+    HostileCase { name: name.to_string(), setup, damage: Damage::Inverted(inverted), calls, promise }
+}
+
+/// Neither struct has an error. The key gets a set, and so does the session, or it gets a spare number.
+fn refused_structs(bits: u32) -> HostileCase {
+    let plan = one_block();
+    let setup = vec![plan.configure(), plan.open(), Call::Reseal];
+    let of_session = if bits.is_multiple_of(2) { Inverted::session_set(bits) } else { Inverted::session_spare(bits) };
+    let inverted = vec![Inverted::key_set(bits), of_session];
+    hand_made("hand-made set without an error", setup, inverted, every_call(&plan), Promise::Refused)
+}
+
+/// The key has an error, in whose set these bits are inverted.
+fn error_of_key(bits: u32) -> HostileCase {
+    let plan = one_block();
+    let setup = vec![plan.configure(), plan.receive()];
+    let calls = vec![plan.receive(), plan.configure(), Call::Check];
+    hand_made("hand-made set of a key's error", setup, vec![Inverted::key_set(bits)], calls, error_of_zeros(bits))
+}
+
+/// The session has an error, in whose set these bits are inverted. Abandon puts it in the key.
+fn error_of_session(bits: u32) -> HostileCase {
+    let plan = one_block();
+    let setup = vec![plan.configure(), plan.open(), plan.packet(0, 16)];
+    let calls = vec![plan.packet(0, 0), Call::Abandon, Call::Check];
+    let inverted = vec![Inverted::session_set(bits)];
+    hand_made("hand-made set of a session's error", setup, inverted, calls, error_of_zeros(bits))
 }
 
 fn fits(call: &Call) -> bool {
@@ -196,14 +282,13 @@ impl Before {
 /// Returns what the call did that it must not, if anything.
 fn judge(call: &Call, seals: &Seals, before: &Before, reply: &Reply, state: &State) -> Result<(), &'static str> {
     let answer = reply.numbers[0];
-    let refusal = if needs_session(call) { answer::NOT_A_SESSION } else { answer::NOT_A_KEY };
     let known = answer <= answer::NOT_CONFIGURED || answer == answer::NOT_A_KEY || answer == answer::NOT_A_SESSION;
     let (writable_memory, writable_wire) = if answer == answer::DONE { writable(call) } else { (0, 0) };
     let (memory, wire) = (state.memory.all(), state.wire.all());
     let rules = [
         (known, "the answer is not one of the numbered answers"),
         (
-            before.has_right_seal(call, seals) || answer == refusal,
+            before.has_right_seal(call, seals) || answer == refusal(call),
             "a struct without the right seal was not refused as such",
         ),
         (reply.structs_right, "a call returned another struct than it must"),
@@ -215,6 +300,15 @@ fn judge(call: &Call, seals: &Seals, before: &Before, reply: &Reply, state: &Sta
     match rules.into_iter().find(|(holds, _)| !holds) {
         Some((_, fault)) => Err(fault),
         None => Ok(()),
+    }
+}
+
+/// Returns the answer of a call to a struct that is no key, or no session.
+fn refusal(call: &Call) -> u64 {
+    if needs_session(call) {
+        answer::NOT_A_SESSION
+    } else {
+        answer::NOT_A_KEY
     }
 }
 

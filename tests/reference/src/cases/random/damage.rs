@@ -33,7 +33,7 @@ fn block_damage(rng: &mut Rng, size: usize) -> Vec<(u64, u8)> {
     let escape = all_ones(APPLICATION);
     let whole_escape = all_ones(APPLICATION.start..REFERENCE.end);
     let data_byte = (rng.below(size as u64), rng.byte());
-    let field_bytes = match rng.below(13) {
+    let field_bytes = match rng.below(16) {
         0 | 1 => return vec![data_byte],
         2 => some_byte(rng, GUARD),
         3 => some_byte(rng, APPLICATION),
@@ -47,6 +47,9 @@ fn block_damage(rng: &mut Rng, size: usize) -> Vec<(u64, u8)> {
         10 => [all_ones(REFERENCE), some_byte(rng, GUARD)].concat(),
         // A field that was never written.
         11 => all_ones(0..FIELD_SIZE),
+        12 => some_bytes(rng, REFERENCE),
+        13 => some_bytes(rng, APPLICATION.start..REFERENCE.end),
+        14 => some_bytes(rng, 0..FIELD_SIZE),
         _ => (0..FIELD_SIZE).map(|at| (at, rng.byte())).collect(),
     };
     let field_bytes = field_bytes.into_iter().map(|(at, byte)| ((size + at) as u64, byte));
@@ -57,4 +60,10 @@ fn block_damage(rng: &mut Rng, size: usize) -> Vec<(u64, u8)> {
 fn some_byte(rng: &mut Rng, field: Range<usize>) -> Vec<(usize, u8)> {
     let at = field.start + rng.below(field.len() as u64) as usize;
     vec![(at, rng.byte())]
+}
+
+/// Changes each byte with a chance of one half, so that all sets of bytes are equally likely.
+fn some_bytes(rng: &mut Rng, field: Range<usize>) -> Vec<(usize, u8)> {
+    let chosen: Vec<usize> = field.filter(|_| rng.percent(50)).collect();
+    chosen.into_iter().map(|at| (at, rng.byte())).collect()
 }

@@ -14,7 +14,34 @@ pub enum Damage {
     Random(Rng),
     /// Both structs get a wrong seal: the one with this index.
     WrongSeals(usize),
+    /// Some bits are inverted.
+    Inverted(Vec<Inverted>),
     Words(Vec<ChangedWord>),
+}
+
+/// Bits that are inverted in one word. Where a number is 0 in a valid struct, it becomes these bits.
+#[derive(Clone, Copy)]
+pub struct Inverted {
+    which: Which,
+    at: usize,
+    bits: u64,
+}
+
+impl Inverted {
+    /// The set of differing bytes of the key's error: by the header, the 32-bit number at byte 356.
+    pub fn key_set(bits: u32) -> Inverted {
+        Inverted { which: Which::Key, at: 356 / 8, bits: u64::from(bits) << 32 }
+    }
+
+    /// The set of differing bytes of the session's error: by the header, the 32-bit number at byte 448.
+    pub fn session_set(bits: u32) -> Inverted {
+        Inverted { which: Which::Session, at: 448 / 8, bits: bits.into() }
+    }
+
+    /// The session's spare number: by the header, the 32-bit number at byte 460.
+    pub fn session_spare(bits: u32) -> Inverted {
+        Inverted { which: Which::Session, at: 460 / 8, bits: u64::from(bits) << 32 }
+    }
 }
 
 #[derive(Clone)]
@@ -35,7 +62,7 @@ impl Damage {
     pub fn words(&self) -> &[ChangedWord] {
         match self {
             Damage::Words(words) => words,
-            Damage::Random(_) | Damage::WrongSeals(_) => &[],
+            Damage::Random(_) | Damage::WrongSeals(_) | Damage::Inverted(_) => &[],
         }
     }
 
@@ -55,6 +82,14 @@ impl Damage {
             Damage::WrongSeals(wrong) => {
                 key.words[0] = wrong_seals(key_seal, session_seal)[*wrong];
                 session.words[0] = wrong_seals(session_seal, key_seal)[*wrong];
+            }
+            Damage::Inverted(inverted) => {
+                for &Inverted { which, at, bits } in inverted {
+                    match which {
+                        Which::Key => key.words[at] ^= bits,
+                        Which::Session => session.words[at] ^= bits,
+                    }
+                }
             }
             Damage::Words(words) => {
                 for &ChangedWord { which, at, word } in words {
