@@ -1,6 +1,6 @@
 //! Hostile cases: calls with structs that no call ever made. They are random bits, random bits after a right seal, or
-//! valid structs with a few bits changed. Which answer such a call returns is left to the library, except where the
-//! header says it. The call must return, must change nothing that it may not write, and must refuse a wrong seal.
+//! valid structs with a few bits changed. Which answer such a call returns is left to the library, except where
+//! docs/RULES.md says it. The call must return, must change nothing that it may not write, and must refuse a wrong seal.
 
 mod damage;
 
@@ -28,7 +28,7 @@ pub struct HostileCase {
     promise: Promise,
 }
 
-/// What the header says of calls with the damaged structs.
+/// What docs/RULES.md says of calls with the damaged structs.
 #[derive(Clone, Copy)]
 enum Promise {
     Nothing,
@@ -139,7 +139,7 @@ impl Promise {
     fn judge(&self, call: &Call, reply: &Reply) -> Result<(), &'static str> {
         match self {
             Promise::Refused if reply.numbers[0] != refusal(call) => {
-                Err("a struct was not refused that the header says is none")
+                Err("a struct was accepted that docs/RULES.md says is no key or no session")
             }
             Promise::Error(error)
                 if *call == Call::Check && reply.numbers != [&[answer::DONE], &error[..]].concat() =>
