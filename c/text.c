@@ -58,16 +58,27 @@ static const struct tag {
             [GAROALVA_ERROR_APPLICATION] = {"application tag", 2, 2}};
 
 /* The words for a set of up to four bytes: 8 stands for byte 0, 4 for byte 1, 2 for byte 2 and 1 for byte 3. */
-static const char *const byte_sets[] = {
-    "no checked byte",       "checked byte 3",           "checked byte 2",           "checked bytes 2 and 3",
-    "checked byte 1",        "checked bytes 1 and 3",    "checked bytes 1 and 2",    "checked bytes 1, 2 and 3",
-    "checked byte 0",        "checked bytes 0 and 3",    "checked bytes 0 and 2",    "checked bytes 0, 2 and 3",
-    "checked bytes 0 and 1", "checked bytes 0, 1 and 3", "checked bytes 0, 1 and 2", "checked bytes 0, 1, 2 and 3"};
+static const char *const byte_sets[] = {"no byte",       "byte 3",           "byte 2",           "bytes 2 and 3",
+                                        "byte 1",        "bytes 1 and 3",    "bytes 1 and 2",    "bytes 1, 2 and 3",
+                                        "byte 0",        "bytes 0 and 3",    "bytes 0 and 2",    "bytes 0, 2 and 3",
+                                        "bytes 0 and 1", "bytes 0, 1 and 3", "bytes 0, 1 and 2", "bytes 0, 1, 2 and 3"};
 
 /* Returns the tag's bytes in a mask, as a number of byte_sets. */
 static uint32_t byte_set(uint32_t mask, const struct tag *tag) {
     uint32_t from_first = mask << tag->first & 0xFF;
     return from_first >> (8 - tag->bytes) << (4 - tag->bytes);
+}
+
+enum { DIFFERING_TEXT_SIZE = 64 };
+
+/* Writes which bytes differ, as in "; checked bytes 0 and 1 of the guard differ", or nothing if the set is empty,
+ * as it is only in an error that no call found. */
+static void write_differing(uint32_t set, const struct tag *tag, char text[DIFFERING_TEXT_SIZE]) {
+    int is_one = (set & (set - 1)) == 0;
+    text[0] = 0;
+    if (set != 0)
+        snprintf(text, DIFFERING_TEXT_SIZE, "; checked %s of the %s differ%s", byte_sets[set], tag->name,
+                 is_one ? "s" : "");
 }
 
 size_t garoalva_error_text(garoalva_error error, char *text, size_t size) {
@@ -79,11 +90,10 @@ size_t garoalva_error_text(garoalva_error error, char *text, size_t size) {
         return (size_t)snprintf(text, room, "unknown error type");
     const struct tag *tag = &tags[error.type];
     int digits = 2 * tag->bytes;
-    uint32_t set = byte_set(error.differing, tag);
-    int is_one_or_none = (set & (set - 1)) == 0;
+    char differing[DIFFERING_TEXT_SIZE];
+    write_differing(byte_set(error.differing, tag), tag, differing);
     return (size_t)snprintf(text, room,
                             "bad %s in the block at byte %" PRIu32 " of the input stream: its field says 0x%0*" PRIX32
-                            ", the rule gives 0x%0*" PRIX32 "; %s of the %s differ%s",
-                            tag->name, error.offset, digits, error.expected, digits, error.actual, byte_sets[set],
-                            tag->name, is_one_or_none ? "s" : "");
+                            ", the rule gives 0x%0*" PRIX32 "%s",
+                            tag->name, error.offset, digits, error.expected, digits, error.actual, differing);
 }

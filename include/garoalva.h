@@ -226,9 +226,10 @@ typedef struct {
  * The first error of a key or session: the first bad block, and in it the first bad one of guard, application tag and
  * reference tag, in this order. All five numbers are 0 if there is no error.
  *
- * `differing` says which bytes of that guard or tag are in check_mask and differ. Its bits are among those of
- * GAROALVA_MASK_GUARD, GAROALVA_MASK_APPLICATION or GAROALVA_MASK_REFERENCE, as `type` says, and at least one is set. A
- * byte that is not checked has no bit, even if it differs. Nor has a byte of another tag.
+ * `differing` says which bytes of that guard or tag differ and were in the check_mask of the transfer that found the
+ * error. Its bits are among those of GAROALVA_MASK_GUARD, GAROALVA_MASK_APPLICATION or GAROALVA_MASK_REFERENCE, as
+ * `type` says. In an error that a call found, at least one is set. A byte that was not checked has no bit, even if it
+ * differs. Nor has a byte of another tag.
  */
 typedef struct {
     uint32_t type;      /* GAROALVA_ERROR_.. */
@@ -492,9 +493,9 @@ const char *garoalva_answer_text(uint64_t answer);
  * size           bytes of the buffer; GAROALVA_ERROR_TEXT_SIZE is always enough
  *
  * Writes the text and a final 0, at most size bytes in all, as snprintf does: a text that is too long is cut. It says
- * where the block is, what was found, what the rule computes, and which checked bytes differ: the bytes of the guard or
- * tag are counted from 0, high byte first. The text of type 0 is "no error", and that of a type above 3 "unknown error
- * type".
+ * where the block is, what was found, what the rule computes, and which checked bytes of the guard or tag differ. There
+ * the bytes are counted within the guard or tag, from 0, high byte first. The text of type 0 is "no error", and that of
+ * a type above 3 "unknown error type".
  *
  * Returns the length of the whole text without its final 0. The text was cut if size is not greater.
  */

@@ -18,6 +18,9 @@ pub enum Tag {
 }
 
 /// The first bad block, and the first bad tag of its field.
+///
+/// The text of the error says which checked bytes of the tag differ. It counts them within the tag, from 0, high byte
+/// first. A [`Mask`] and [`Tag::bytes`] count them within the field.
 #[derive(Clone, Copy, Debug, PartialEq, Eq)]
 pub struct BlockError {
     /// The bad tag: the first in the order guard, application tag, reference tag.
@@ -28,8 +31,8 @@ pub struct BlockError {
     pub expected: u32,
     /// Where the block's data begins in the input stream.
     pub offset: u64,
-    /// The bytes of the bad tag that are checked and differ. A byte that is not checked is not among them, nor is a byte
-    /// of another tag.
+    /// The bytes of the bad tag that differ and were in the check mask of the transfer that found the error. A byte that
+    /// was not checked is not among them, nor is a byte of another tag.
     pub differing: Mask,
 }
 
@@ -90,17 +93,17 @@ impl Display for BlockError {
         write!(
             f,
             "bad {} in the block at byte {} of the input stream: \
-             its field says 0x{:0digits$X}, the rule gives 0x{:0digits$X}; ",
+             its field says 0x{:0digits$X}, the rule gives 0x{:0digits$X}",
             self.tag, self.offset, self.expected, self.actual
         )?;
         let in_field = self.tag.bytes().filter(|&byte| self.differing.contains(byte));
         let in_tag: Vec<_> = in_field.map(|byte| byte - self.tag.bytes().start).collect();
         match in_tag.as_slice() {
-            [] => write!(f, "no checked byte of the {} differs", self.tag),
-            [one] => write!(f, "checked byte {one} of the {} differs", self.tag),
+            [] => Ok(()),
+            [one] => write!(f, "; checked byte {one} of the {} differs", self.tag),
             [most @ .., last] => {
                 let most = most.iter().map(usize::to_string).collect::<Vec<_>>().join(", ");
-                write!(f, "checked bytes {most} and {last} of the {} differ", self.tag)
+                write!(f, "; checked bytes {most} and {last} of the {} differ", self.tag)
             }
         }
     }

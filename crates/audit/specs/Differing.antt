@@ -1,6 +1,6 @@
--- The fifth number of check: the set of differing checked bytes of the reported tag, as a mask (02, request 6). What it
--- is for every transfer, `Errors` says in `BadBytesOf`. Here are examples, first what the request is about: "Support
--- can't tell a half-masked application tag from a wrong one."
+-- The fifth number of check: the set of differing checked bytes of the reported tag, as a mask (02, request 6).
+-- `BadBytesOf` in `Errors` says what it is after every accepted transfer from an empty slot. Here are examples, first
+-- what the request is about: "Support can't tell a half-masked application tag from a wrong one."
 --
 --   checked checkMask field last     what receive and check return for A's wire, changed
 --   DifferingExamples                the numbers for five fields that differ from A's
@@ -20,7 +20,8 @@ pub record DifferingExamples : Type 0 where
   pub wrongTag :
       checked 0xFF (0x8B ∷ 0xB7 ∷ 0x56 ∷ 0x78 ∷ 0xFF ∷ 0xFF ∷ 0xFF ∷ 0xFF ∷ []) 0
       ≡ 0 ∷ 32 ∷ 16 ∷ 3 ∷ 0x1234 ∷ 0x5678 ∷ 0 ∷ 0x30 ∷ []
-  -- The same tag under check mask 0xDF, which leaves out its first byte. The other numbers are the same.
+  -- The application tag 56 78 differs from 12 34 in both bytes, and check mask 0xDF leaves out the first. All numbers
+  -- but the last are as if both were checked.
   pub halfMasked :
       checked 0xDF (0x8B ∷ 0xB7 ∷ 0x56 ∷ 0x78 ∷ 0xFF ∷ 0xFF ∷ 0xFF ∷ 0xFF ∷ []) 0
       ≡ 0 ∷ 32 ∷ 16 ∷ 3 ∷ 0x1234 ∷ 0x5678 ∷ 0 ∷ 0x10 ∷ []

@@ -103,7 +103,7 @@ fn checked_mask(d: Domain, mask: u8, found: ProtectionField) -> u8
     if escaped(d, found) { 0 } else { mask }
 }
 
-// Returns the first wrong tag, given the set of differing bytes, of which it keeps that tag's.
+// Returns the first wrong tag with its own differing bytes, given the set of all differing bytes.
 fn first_bad(set: u8, right: ProtectionField, found: ProtectionField) -> Judgement
     ensures { λ r. ⌜ r ≡ judging.firstBad set right found ⌝ }
 {

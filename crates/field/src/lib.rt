@@ -90,8 +90,8 @@ pub enum Tag {
 }
 
 // A tag whose found value differs from the computed one. Actual is what the rule computes, expected what was found, and
-// differing the mask of the tag's checked bytes in which they differ. It is a u32, because a u8 would leave bytes of
-// padding in an error slot.
+// differing the mask of the tag's checked bytes in which they differ. It is a u32, because a u8 would leave three more
+// bytes of padding in an error slot.
 pub struct Mismatch {
     pub tag: Tag,
     pub actual: u32,

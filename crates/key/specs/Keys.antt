@@ -98,7 +98,7 @@ pub record CameFromCalls (k : Key) : Type 0 where
       k .configured ≡ true
       → configureAnswer (k .«memory_length») (record { signature = k .signature; layout = k .layout }) ≡ Done
 
--- 01: "Check on a key never configured answers four zeros."
+-- 01: "Check on a key never configured answers four zeros". By 02, request 6, they are five.
 abbrev pub NeverConfiguredZeros : Type 0
 NeverConfiguredZeros = (k : Key) → CameFromCalls k → k .configured ≡ false → checkResult k .error ≡ noError
 

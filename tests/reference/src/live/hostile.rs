@@ -1,6 +1,7 @@
 //! Hostile cases: calls with structs that no call ever made. They are random bits, random bits after a right seal, or
 //! valid structs with a few bits changed. Which answer such a call returns is left to the library, except where
-//! docs/RULES.md says it. The call must return, must change nothing that it may not write, and must refuse a wrong seal.
+//! docs/RULES.md says it. The call must return, must change nothing that it may not write, and must refuse a wrong
+//! seal.
 
 mod damage;
 

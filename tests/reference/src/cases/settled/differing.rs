@@ -242,7 +242,7 @@ fn escaped_block(direction: Direction, flag: u32) -> Case {
         .then_all(transferred.clone())
         .then_all(rewrite(direction, 24, right, changed(right, 0x06)))
         .then_all(transferred.clone())
-        .then_all(rewrite(direction, 24, right, changed(right, 0x40)))
+        .then_all(rewrite(direction, 24, changed(right, 0x06), changed(right, 0x40)))
         .then_all(transferred.clone())
         .then_all(input_bytes(direction, 8, &right[..2]))
         .then_all(input_bytes(direction, 10, &[0xFF, 0x34]))
