@@ -35,6 +35,7 @@ static garoalva_domain domain(const struct scene *s, bool is_signed) {
         .seed = scene_seed(s),
         .application_tag = APPLICATION_TAG,
         .flags = GAROALVA_REMAP,
+        .edition = GAROALVA_EDITION_1,
     };
 }
 

@@ -37,6 +37,8 @@ const char *garoalva_answer_text(uint64_t answer) {
         return "not all wire bytes have arrived";
     case GAROALVA_ANSWER_NOT_CONFIGURED:
         return "the key was never configured";
+    case GAROALVA_ANSWER_EDITION:
+        return "a domain's edition is not 1 or 2, or it is 2 and the block size is not a multiple of 512";
     case GAROALVA_ANSWER_NOT_A_KEY:
         return "the struct is not a key of the library's version; an accepted open, a refused finish and a refused "
                "abandon return none";

@@ -27,7 +27,8 @@ static garoalva_key configured_key(const uint8_t *memory) {
                                .seed = 0xFFFF,
                                .application_tag = 0x1234,
                                .reference_tag = 1000,
-                               .flags = GAROALVA_REMAP},
+                               .flags = GAROALVA_REMAP,
+                               .edition = GAROALVA_EDITION_1},
                       .check_mask = GAROALVA_MASK_GUARD | GAROALVA_MASK_APPLICATION | GAROALVA_MASK_REFERENCE}};
     garoalva_configure_result configured = garoalva_configure(garoalva_fresh(), memory, DATA, configuration);
     stop_if_refused("configure", configured.answer);

@@ -19,6 +19,7 @@ fn configuration() -> Configuration {
         application_tag: 0x1234,
         reference_tag: 1000,
         remap: true,
+        edition: Edition::First,
         escape: Escape::Never,
     };
     Configuration {

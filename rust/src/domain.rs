@@ -24,8 +24,10 @@ pub struct T10Dif {
     pub application_tag: u16,
     /// The reference tag of a transfer's first block.
     pub reference_tag: u32,
-    /// Whether the reference tag counts up by 1 with each block; 0 follows 0xFFFFFFFF.
+    /// Whether the reference tag counts up with each block, by the step of the edition.
     pub remap: bool,
+    /// By how much the reference tag grows from one block to the next under remap.
+    pub edition: Edition,
     /// Which blocks are not checked at all.
     pub escape: Escape,
 }
@@ -46,6 +48,19 @@ pub enum Seed {
     Zero,
     /// 0xFFFF.
     Ones,
+}
+
+/// By how much the reference tag grows from one block to the next under remap. It is counted modulo 2^32, so 0 follows
+/// 0xFFFFFFFF. Without a given copy mask, the reference tag is copied only if both sides have the same edition, with
+/// remap or without it.
+#[derive(Clone, Copy, Debug, Default, PartialEq, Eq)]
+pub enum Edition {
+    /// By 1: the tag counts blocks.
+    #[default]
+    First,
+    /// By the block size divided by 512: the tag counts sectors of 512 bytes. The block size must be a multiple of 512,
+    /// with remap or without it.
+    Second,
 }
 
 /// Which blocks are escaped. No byte of an escaped block's field is checked. Storage devices mark blocks that were
@@ -78,6 +93,7 @@ impl Domain {
                 seed: 0,
                 application_tag: 0,
                 flags: 0,
+                edition: 0,
             },
             Domain::T10Dif(signature) => ffi::Domain {
                 kind: ffi::KIND_T10_DIF,
@@ -87,6 +103,7 @@ impl Domain {
                 seed: signature.seed.value(),
                 application_tag: signature.application_tag,
                 flags: signature.flags(),
+                edition: signature.edition.number(),
             },
         }
     }
@@ -113,6 +130,15 @@ impl Seed {
         match self {
             Seed::Zero => 0,
             Seed::Ones => 0xFFFF,
+        }
+    }
+}
+
+impl Edition {
+    fn number(self) -> u32 {
+        match self {
+            Edition::First => ffi::EDITION_1,
+            Edition::Second => ffi::EDITION_2,
         }
     }
 }

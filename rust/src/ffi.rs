@@ -14,6 +14,9 @@ pub const REMAP: u32 = 1;
 pub const ESCAPE_APPLICATION: u32 = 2;
 pub const ESCAPE_BOTH: u32 = 4;
 
+pub const EDITION_1: u32 = 1;
+pub const EDITION_2: u32 = 2;
+
 pub const COPY_MASK_GIVEN: u32 = 1;
 
 pub const ERROR_NONE: u32 = 0;
@@ -33,6 +36,7 @@ pub struct Domain {
     pub seed: u16,
     pub application_tag: u16,
     pub flags: u32,
+    pub edition: u32,
 }
 
 #[derive(Clone, Copy)]
@@ -183,22 +187,22 @@ const fn field_size<S, F>(_field: fn(&S) -> &F) -> usize {
 
 // The header asserts the same numbers. Nothing else compares its structs with these.
 assert_layouts! {
-    Domain 24: kind 0, block_size 4, guard_type 8, reference_tag 12, seed 16, application_tag 18, flags 20;
+    Domain 28: kind 0, block_size 4, guard_type 8, reference_tag 12, seed 16, application_tag 18, flags 20, edition 24;
     Entry 16: start 0, count 8, skip 12;
     Layout 264: entries 0, used 256, repeat 260;
-    Signature 56: memory 0, wire 24, attribute_flags 48, check_mask 52, copy_mask 53, spare 54;
-    Configuration 320: layout 0, signature 264;
+    Signature 64: memory 0, wire 28, attribute_flags 56, check_mask 60, copy_mask 61, spare 62;
+    Configuration 328: layout 0, signature 264;
     Error 20: error_type 0, actual 4, expected 8, offset 12, differing 16;
-    Key 360: seal 0, memory_length 8, layout 16, signature 280, configured 336, error 340;
+    Key 368: seal 0, memory_length 8, layout 16, signature 280, configured 344, error 348;
     Side 24: index 0, at 8, odd 16, guard 20, spare 22;
-    Session 464: seal 0, key 8, offset 368, data_length 376, input 384, output 408, error 432, held 452, spare 460;
-    ConfigureResult 368: key 0, answer 360;
-    TransferResult 384: key 0, answer 360, taken 368, written 376;
-    CheckResult 392: key 0, answer 360, error 368, spare 388;
-    OpenResult 832: key 0, session 360, answer 824;
-    PacketResult 488: session 0, answer 464, taken 472, written 480;
-    FinishResult 832: key 0, session 360, answer 824;
-    AbandonResult 368: key 0, answer 360;
+    Session 472: seal 0, key 8, offset 376, data_length 384, input 392, output 416, error 440, held 460, spare 468;
+    ConfigureResult 376: key 0, answer 368;
+    TransferResult 392: key 0, answer 368, taken 376, written 384;
+    CheckResult 400: key 0, answer 368, error 376, spare 396;
+    OpenResult 848: key 0, session 368, answer 840;
+    PacketResult 496: session 0, answer 472, taken 480, written 488;
+    FinishResult 848: key 0, session 368, answer 840;
+    AbandonResult 376: key 0, answer 368;
 }
 
 /// The symbol of a function that takes or returns a struct: its name and the struct version, which is the N of the

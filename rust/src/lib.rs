@@ -33,6 +33,7 @@
 //!             application_tag: 0x1234,
 //!             reference_tag: 7,
 //!             remap: true,
+//!             edition: Edition::First,
 //!             escape: Escape::Never,
 //!         }),
 //!         check: Mask::ALL,
@@ -86,7 +87,7 @@ mod session;
 mod tests;
 
 pub use configuration::{Configuration, Copying, Mask, Signature};
-pub use domain::{Domain, Escape, Guard, Seed, T10Dif};
+pub use domain::{Domain, Edition, Escape, Guard, Seed, T10Dif};
 pub use error::{BlockError, Tag};
 pub use key::{Key, OpenRefused, Totals};
 pub use layout::{Entry, Layout, LayoutOffset, MemoryOffset};

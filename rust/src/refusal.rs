@@ -37,6 +37,9 @@ pub enum Refusal {
     BytesToCome,
     /// The key was never configured.
     NotConfigured,
+    /// A domain's edition is not valid. In this crate that is [`Edition::Second`](crate::Edition::Second) with a block
+    /// size that is no multiple of 512.
+    Edition,
     /// The key is not one of the linked library's version. All keys of this crate are, if the library is the crate's.
     NotAKey,
     /// The session is not one of the linked library's version. All sessions of this crate are, if the library is the
@@ -48,7 +51,7 @@ pub enum Refusal {
 }
 
 /// Every refusal that has a name.
-pub(crate) const NAMED: [Refusal; 16] = [
+pub(crate) const NAMED: [Refusal; 17] = [
     Refusal::BadDomain,
     Refusal::EscapeTag,
     Refusal::CopyMask,
@@ -63,6 +66,7 @@ pub(crate) const NAMED: [Refusal; 16] = [
     Refusal::LongPacket,
     Refusal::BytesToCome,
     Refusal::NotConfigured,
+    Refusal::Edition,
     Refusal::NotAKey,
     Refusal::NotASession,
 ];
@@ -85,6 +89,7 @@ impl Refusal {
             Refusal::LongPacket => 12,
             Refusal::BytesToCome => 13,
             Refusal::NotConfigured => 14,
+            Refusal::Edition => 20,
             Refusal::NotAKey => 1000,
             Refusal::NotASession => 1001,
             Refusal::Unknown(number) => number,
@@ -125,6 +130,9 @@ impl Display for Refusal {
             Refusal::LongPacket => "the packet is longer than the wire bytes still to come",
             Refusal::BytesToCome => "not all wire bytes have arrived",
             Refusal::NotConfigured => "the key was never configured",
+            Refusal::Edition => {
+                "a domain's edition is not 1 or 2, or it is 2 and the block size is not a multiple of 512"
+            }
             Refusal::NotAKey => {
                 "the struct is not a key of the library's version; an accepted open, a refused finish and a refused \
                  abandon return none"

@@ -15,6 +15,7 @@ fn configuration() -> Configuration {
         application_tag: 0,
         reference_tag: 0,
         remap: false,
+        edition: Edition::default(),
         escape: Escape::Never,
     };
     Configuration {

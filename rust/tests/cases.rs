@@ -190,6 +190,66 @@ fn checksums_differ_by_seed_on_zeros_alone() {
     }
 }
 
+/// Sends blocks, receives them again without an error, and returns their reference tags.
+fn tags_sent(blocks: usize, domain: T10Dif) -> Vec<u32> {
+    let block = domain.block_size as usize;
+    let length = (blocks * block) as u64;
+    let mut memory = vec![7; blocks * block];
+    let layout = Layout::contiguous(length as u32);
+    let mut key = configured(&memory, &configuration(layout, Domain::None, domain.into()));
+    let mut wire = vec![0; blocks * (block + 8)];
+    key.send(&memory, &mut wire, START, length).unwrap();
+    key.receive(&mut memory, &wire, START, length).unwrap();
+    assert_eq!(key.check(), Ok(None));
+    wire.chunks(block + 8)
+        .map(|unit| u32::from_be_bytes(unit[block + 4..].try_into().unwrap()))
+        .collect()
+}
+
+#[test]
+fn the_second_edition_counts_sectors_and_wraps() {
+    let domain = |block_size, edition| T10Dif {
+        block_size,
+        reference_tag: 0xFFFF_FFFC,
+        edition,
+        ..signed()
+    };
+    assert_eq!(
+        tags_sent(3, domain(4096, Edition::First)),
+        [0xFFFF_FFFC, 0xFFFF_FFFD, 0xFFFF_FFFE]
+    );
+    assert_eq!(tags_sent(3, domain(4096, Edition::Second)), [0xFFFF_FFFC, 4, 12]);
+    assert_eq!(
+        tags_sent(3, domain(1536, Edition::Second)),
+        [0xFFFF_FFFC, 0xFFFF_FFFF, 2]
+    );
+    assert_eq!(tags_sent(2, domain(512, Edition::Second)), [0xFFFF_FFFC, 0xFFFF_FFFD]);
+    let unmapped = T10Dif {
+        remap: false,
+        ..domain(4096, Edition::Second)
+    };
+    assert_eq!(tags_sent(2, unmapped), [0xFFFF_FFFC; 2]);
+}
+
+#[test]
+fn unlike_editions_generate_the_reference_tag() {
+    let side = |edition| {
+        Domain::T10Dif(T10Dif {
+            block_size: 512,
+            edition,
+            ..signed()
+        })
+    };
+    for (edition, tag) in [(Edition::First, [0xFF; 4]), (Edition::Second, [0xAA; 4])] {
+        let configuration = configuration(Layout::contiguous(520), side(edition), side(Edition::Second));
+        let mut memory = [0; 520];
+        let mut key = configured(&memory, &configuration);
+        key.receive(&mut memory, &[0xAA; 520], START, 512).unwrap();
+        assert_eq!(memory[512..516], [0xAA; 4]);
+        assert_eq!(memory[516..], tag);
+    }
+}
+
 #[test]
 fn case_j_walks_entries_then_repeats() {
     let entry = |start, count, skip| Entry {

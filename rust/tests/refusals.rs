@@ -54,6 +54,33 @@ fn bad_block_sizes() {
 }
 
 #[test]
+fn the_second_edition_needs_whole_sectors() {
+    assert_eq!(Edition::default(), Edition::First);
+    for (block_size, refusal) in [
+        (8, Some(Refusal::Edition)),
+        (512, None),
+        (520, Some(Refusal::Edition)),
+        (4096, None),
+        (4160, Some(Refusal::Edition)),
+        (4608, Some(Refusal::BadDomain)),
+    ] {
+        for remap in [false, true] {
+            let domain = T10Dif {
+                block_size,
+                remap,
+                edition: Edition::Second,
+                ..signed()
+            };
+            let layout = Layout::contiguous(16);
+            let on_wire = configuration(layout, Domain::None, domain.into());
+            let in_memory = configuration(layout, domain.into(), Domain::None);
+            assert_eq!(refused(&DATA, &on_wire), refusal, "{block_size}");
+            assert_eq!(refused(&DATA, &in_memory), refusal, "{block_size}");
+        }
+    }
+}
+
+#[test]
 fn an_escape_with_the_tag_that_escapes() {
     for escape in [Escape::Never, Escape::Application, Escape::ApplicationAndReference] {
         let domain = T10Dif {
@@ -254,6 +281,7 @@ fn refused_opens_and_ends_have_a_refusal_as_source() {
 #[test]
 fn refusals_have_numbers_and_words() {
     assert_eq!(Refusal::NotConfigured.number(), 14);
+    assert_eq!(Refusal::Edition.number(), 20);
     assert_eq!(Refusal::NotConfigured.to_string(), "the key was never configured");
     assert_eq!(Refusal::Unknown(77).number(), 77);
     assert_eq!(

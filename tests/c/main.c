@@ -20,7 +20,8 @@ garoalva_domain signed_domain(uint32_t guard_type) {
                              .guard_type = guard_type,
                              .application_tag = 0x1234,
                              .reference_tag = 0xFFFFFFFF,
-                             .flags = GAROALVA_REMAP};
+                             .flags = GAROALVA_REMAP,
+                             .edition = GAROALVA_EDITION_1};
 }
 
 garoalva_key configured_key(garoalva_domain memory, garoalva_domain wire) {
@@ -40,6 +41,7 @@ bool same_session(garoalva_session a, garoalva_session b) { return memcmp(&a, &b
 int main(int count, char **arguments) {
     test_null_pointers();
     test_copies();
+    test_editions();
     test_texts();
     test_versions(count - 1, arguments + 1);
     printf("C API: %d checks, %d failed\n", checks, failures);

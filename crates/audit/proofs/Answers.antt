@@ -13,7 +13,7 @@ use Rattle.key.specs.declared.Key.{Key}
 use Rattle.key.specs.declared.Outcome.{Outcome}
 use Rattle.key.specs.declared.Outcome.the-variants.{Done, Refused}
 use Rattle.key.specs.declared.Refusal.{Refusal}
-use Rattle.key.specs.declared.Refusal.the-variants.{BadDomain, EscapeTag, CopyMask, BlockSizes, MemoryLength, PartialBlock, PastLayout, ShortWire, LongPacket, BytesToCome, NotConfigured}
+use Rattle.key.specs.declared.Refusal.the-variants.{BadDomain, EscapeTag, CopyMask, BlockSizes, MemoryLength, PartialBlock, PastLayout, ShortWire, LongPacket, BytesToCome, NotConfigured, Edition}
 use Rattle.key.specs.Numbers.{refusalNumber, number, refuse, then}
 use Rattle.key.specs.Configuring.{signatureAnswer, layoutAnswer, configureAnswer}
 use Rattle.key.specs.Keys.{configureResultBy, checkResult}
@@ -64,8 +64,8 @@ configure-line : (n : ℕ) (c : Configuration) → Numbered (configureAnswer n c
 unfolding configureAnswer signatureAnswer verdictOn
 configure-line n c =
     line-first MemoryLength _ _ _
-    (line-then BadDomain _ _ _ _ (line-then EscapeTag _ _ _ _ (line-then CopyMask _ _ _ _ (line-then BlockSizes _ _ _ _
-    (line-verdict Malformed _ _ _ (line-verdict Outside _ _ _ (line-verdict Overlapping _ Sound _ no-line)))))))
+    (line-then BadDomain _ _ _ _ (line-then Edition _ _ _ _ (line-then EscapeTag _ _ _ _ (line-then CopyMask _ _ _ _ (line-then BlockSizes _ _ _ _
+    (line-verdict Malformed _ _ _ (line-verdict Outside _ _ _ (line-verdict Overlapping _ Sound _ no-line))))))))
 
 open-line : (k : Key) (n offset dataLength : ℕ) → Numbered (openAnswer k n offset dataLength) (openLines k n offset dataLength)
 unfolding openAnswer

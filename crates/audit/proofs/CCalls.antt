@@ -12,7 +12,7 @@ use Rattle.slot.specs.declared.Slot.{Slot}
 use Rattle.key.specs.declared.Outcome.{Outcome}
 use Rattle.key.specs.declared.Outcome.the-variants.{Done, Refused}
 use Rattle.key.specs.declared.Refusal.{Refusal}
-use Rattle.key.specs.declared.Refusal.the-variants.{BadDomain, EscapeTag, CopyMask, BlockSizes, MalformedLayout, OutsideMemory, Overlap, MemoryLength, PartialBlock, PastLayout, ShortWire, LongPacket, BytesToCome, NotConfigured}
+use Rattle.key.specs.declared.Refusal.the-variants.{BadDomain, EscapeTag, CopyMask, BlockSizes, MalformedLayout, OutsideMemory, Overlap, MemoryLength, PartialBlock, PastLayout, ShortWire, LongPacket, BytesToCome, NotConfigured, Edition}
 use Rattle.key.specs.Numbers.{number, refusalNumber}
 use Rattle.key.specs.Admitting.{openAnswer}
 use Rattle.key.specs.Configuring.{configureAnswer}
@@ -51,6 +51,7 @@ no-refusal ShortWire e = omega arith
 no-refusal LongPacket e = omega arith
 no-refusal BytesToCome e = omega arith
 no-refusal NotConfigured e = omega arith
+no-refusal Edition e = omega arith
 
 -- Only Done has the number 0.
 pub number-done : (o : Outcome) → number o ≡ 0 → o ≡ Done

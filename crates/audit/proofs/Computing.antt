@@ -9,7 +9,7 @@ use borrow.Author.Tests.{ltb-true}
 use Rattle.crc.specs.Crc.{timesX, crcByte, crc}
 use Rattle.guard.specs.Checksum.{_⊕_, words, onesSum}
 use Rattle.guard.specs.Guards.{Bytes, guardOf}
-use Rattle.field.specs.Domains.{referenceTag}
+use Rattle.field.specs.Domains.{tagStep, referenceTag}
 use Rattle.field.specs.Fields.{bytesOf, fieldOf, computedField}
 use Rattle.field.specs.Judging.{escaped, checkedMask, differs, maskOf, differing, firstBad, judged}
 use Rattle.field.specs.Output.{agreed, copyMask, merged, outputField}
@@ -29,7 +29,7 @@ use Rattle.audit.proofs.Ranges.{none-below, next-below}
 
 -- A law with `opened` on its `unfolding` line opens the definitions of configure, of a transfer and of check.
 unfoldable pub opened : Unit {0}
-unfolding timesX crcByte crc _⊕_ words onesSum guardOf referenceTag bytesOf fieldOf computedField escaped checkedMask differs maskOf differing firstBad judged agreed copyMask merged outputField repeats size numbersFrom placesOf gathered scattered someCountZero malformed someBeyond sharesWith someShare verdictOn signatureAnswer configureAnswer errorNumbers checkResult streamLength openAnswer transferAnswer blockSize fieldSize inputBlock inputField joined dataOf outputBlock fieldAfter outputStream slotOf errorBy firstError sendResult wireAfterSend receiveResult memoryAfterReceive
+unfolding timesX crcByte crc _⊕_ words onesSum guardOf tagStep referenceTag bytesOf fieldOf computedField escaped checkedMask differs maskOf differing firstBad judged agreed copyMask merged outputField repeats size numbersFrom placesOf gathered scattered someCountZero malformed someBeyond sharesWith someShare verdictOn signatureAnswer configureAnswer errorNumbers checkResult streamLength openAnswer transferAnswer blockSize fieldSize inputBlock inputField joined dataOf outputBlock fieldAfter outputStream slotOf errorBy firstError sendResult wireAfterSend receiveResult memoryAfterReceive
 opened = tt
 
 -- The test `small` is true if all numbers of a list are below 256.

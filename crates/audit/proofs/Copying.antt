@@ -15,7 +15,7 @@ use Rattle.field.specs.declared.ProtectionField.{ProtectionField}
 use Rattle.field.specs.declared.Domain.{Domain}
 use Rattle.field.specs.Tests.{bit}
 use Rattle.field.specs.Domains.{signed, remaps}
-use Rattle.field.specs.Fields.{bytesOf, bytesIn, fieldOf}
+use Rattle.field.specs.Fields.{guardBits, applicationBits, referenceBits, bytesOf, bytesIn, fieldOf}
 use Rattle.field.specs.Output.{agreed, copyMask, merged, outputField}
 use Rattle.layout.specs.Pieces.{places}
 use Rattle.layout.proofs.MoveLaws.{length-gathered, gathered-at}
@@ -33,6 +33,7 @@ use Rattle.transfer.specs.Transferring.{memoryStream, wireStream}
 use Rattle.transfer.proofs.Laws.{Agree, agree-back, stream-units}
 use Rattle.transfer.proofs.SendLaws.{bytes-gathered}
 use Rattle.audit.specs.Copying.{fieldByte, SendCopies, ReceiveCopies, SendKeepsGuard, ReceiveKeepsGuard}
+use Rattle.audit.proofs.Ranges.{two-below}
 use Rattle.audit.proofs.FieldBytes.{split-joined, found-bytes}
 use Rattle.audit.proofs.Destination.{output-units, block-size, unit-size, told, memory-length, wire-length, send-fills, receive-fills}
 
@@ -159,26 +160,44 @@ module _ (k : Key) (memory wire : List ℕ) (offset dataLength : ℕ) where
       (s .wire) (s .memory) refl y j l i h m
       ∙ getD-take n wire p 0 inside′
 
+-- ---- the bytes that are copied without a given copy mask
+
+-- The bytes of a mask that has or lacks all bits of each tag.
+tag-bytes : (g t r : Bool) → bytesIn (cond g guardBits 0 + cond t applicationBits 0 + cond r referenceBits 0) ≡ g ∷ g ∷ t ∷ t ∷ r ∷ r ∷ r ∷ r ∷ []
+tag-bytes true true true = refl
+tag-bytes true true false = refl
+tag-bytes true false true = refl
+tag-bytes true false false = refl
+tag-bytes false true true = refl
+tag-bytes false true false = refl
+tag-bytes false false true = refl
+tag-bytes false false false = refl
+
+-- With attribute flags 0 and two signed domains, the bytes of each tag are copied if the domains agree in it.
+pub copied-bytes : (mask : ℕ) (a b : Domain) → signed a ≡ true → signed b ≡ true
+    → let g = eqb (a .«guard_type») (b .«guard_type») && eqb (a .seed) (b .seed) in
+    let t = eqb (a .«application_tag») (b .«application_tag») in
+    let r = eqb (a .«reference_tag») (b .«reference_tag») && (Bool·beq (remaps a) (remaps b) && eqb (a .edition) (b .edition)) in
+    bytesIn (copyMask 0 mask a b) ≡ g ∷ g ∷ t ∷ t ∷ r ∷ r ∷ r ∷ r ∷ []
+unfolding copyMask agreed
+copied-bytes mask a b s t =
+    rw (s, t)
+    (tag-bytes (eqb (a .«guard_type») (b .«guard_type») && eqb (a .seed) (b .seed)) (eqb (a .«application_tag») (b .«application_tag»))
+    (eqb (a .«reference_tag») (b .«reference_tag») && (Bool·beq (remaps a) (remaps b) && eqb (a .edition) (b .edition))))
+
 -- ---- the guard
 
-cond-small : (b : Bool) (n : ℕ) → cond b n 0 ≤ n
-cond-small true n = omega arith
-cond-small false n = omega arith
+-- The first two of eight.
+first-two : (g t r : Bool) → g ≡ true → (i : ℕ) → i < 2 → getD (g ∷ g ∷ t ∷ t ∷ r ∷ r ∷ r ∷ r ∷ []) i false ≡ true
+first-two g t r h = two-below (λ (i : ℕ). getD (g ∷ g ∷ t ∷ t ∷ r ∷ r ∷ r ∷ r ∷ []) i false ≡ true) h h
 
 -- With attribute flags 0, and one guard type and seed on both sides, the copy mask in force contains both guard bytes.
 guard-bits : (attributes mask : ℕ) (a b : Domain) → attributes ≡ 0 → signed a ≡ true → signed b ≡ true → a .«guard_type» ≡ b .«guard_type» → a .seed ≡ b .seed
     → (i : ℕ) → i < 2 → getD (bytesIn (copyMask attributes mask a b)) i false ≡ true
-unfolding copyMask agreed
 guard-bits attributes mask a b f s t g e i h =
-    let tag = eqb (a .«application_tag») (b .«application_tag») in
-    let reference = eqb (a .«reference_tag») (b .«reference_tag») && Bool·beq (remaps a) (remaps b) in
-    let m : copyMask attributes mask a b ≡ 0xC0 + cond tag 0x30 0 + cond reference 0x0F 0 = rw (f, s, t, eq-eqb (a .«guard_type») (b .«guard_type») g, eq-eqb (a .seed) (b .seed) e) in
-    bits (copyMask attributes mask a b) i h (omega (arith, m)) (omega (arith, m, cond-small tag 0x30, cond-small reference 0x0F))
-  where
-    bits : (m i : ℕ) → i < 2 → 192 ≤ m → m < 256 → getD (bytesIn m) i false ≡ true
-    bits m zero h l n = eq-eqb (m / 128 % 2) 1 (omega arith)
-    bits m (suc zero) h l n = eq-eqb (m / 64 % 2) 1 (omega arith)
-    bits m (suc (suc i)) h l n = absurd (omega arith)
+    let same : eqb (a .«guard_type») (b .«guard_type») && eqb (a .seed) (b .seed) ≡ true = rw (eq-eqb (a .«guard_type») (b .«guard_type») g, eq-eqb (a .seed) (b .seed) e) in
+    ap (λ (l : List Bool). getD l i false) (ap (λ (n : ℕ). bytesIn (copyMask n mask a b)) f ∙ copied-bytes mask a b s t)
+    ∙ first-two (eqb (a .«guard_type») (b .«guard_type») && eqb (a .seed) (b .seed)) _ _ same i h
 
 module _ (k : Key) (memory wire : List ℕ) (offset dataLength : ℕ) where
   -- With one guard type and seed, an accepted send outputs both guard bytes as they are in memory.

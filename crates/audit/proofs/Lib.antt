@@ -8,6 +8,7 @@ pub mod Bursts
 pub mod Destination
 pub mod FieldBytes
 pub mod Copying
+pub mod Editions
 pub mod Escape
 pub mod CaseM
 pub mod Premise

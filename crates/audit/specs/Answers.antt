@@ -1,4 +1,5 @@
 -- 01's "Numbered answers" for every call: the lines of the table that apply to it, in 01's order, with their numbers.
+-- Line 20 is that of 02, request 11.
 -- The contracts speak of outcomes; here these become numbers, by one definition. Fresh returns no answer.
 --
 --   Line, firstOf lines      a line of the table; the number of the first line whose test holds, or 0
@@ -19,7 +20,8 @@ use Rattle.slot.specs.Slots.{noError}
 use Rattle.key.specs.declared.Configuration.{Configuration}
 use Rattle.key.specs.declared.Key.{Key}
 use Rattle.key.specs.Numbers.{number}
-use Rattle.key.specs.Configuring.{memoryLimit, copyMaskGiven, badDomain, escapesAlways, sameSize, bothSigned}
+use Rattle.key.specs.Configuring.{memoryLimit, copyMaskGiven}
+use Rattle.key.specs.Configuring.{badDomain, badEdition, escapesAlways, sameSize, bothSigned}
 use Rattle.key.specs.Keys.{configureResult, NeverConfiguredZeros}
 use Rattle.key.specs.Streams.{streamLength}
 use Rattle.key.specs.Admitting.{partial}
@@ -43,13 +45,14 @@ firstOf (Line.line number when ∷ more) = cond when number (firstOf more)
 
 -- ---- the lines of each call
 
--- Configure: 8, 1 to 7.
+-- Configure: 8, 1, 20, 2 to 7.
 abbrev pub configureLines : (memoryLength : ℕ) (c : Configuration) → List Line
 configureLines memoryLength c =
     let s = c .signature in
     let l = c .layout in
     Line.line 8 (ltb memoryLimit memoryLength)
     ∷ Line.line 1 (badDomain (s .memory) || (badDomain (s .wire) || ltb copyMaskGiven (s .«attribute_flags»)))
+    ∷ Line.line 20 (badEdition (s .memory) || badEdition (s .wire))
     ∷ Line.line 2 (escapesAlways (s .memory) || escapesAlways (s .wire))
     ∷ Line.line 3 (eqb (s .«attribute_flags») copyMaskGiven && not (bothSigned s && sameSize s))
     ∷ Line.line 4 (bothSigned s && not (sameSize s))

@@ -34,7 +34,7 @@ entry start count skip = record { start = record { 0 = start }; count = count; s
 abbrev pub twoEntries : (a b : Entry) (used repeat : ℕ) → Layout
 twoEntries a b used repeat = record { entries = a ∷ b ∷ replicate 14 (entry 0 0 0); used = used; repeat = repeat }
 
--- A domain with blocks of 8, application tag 0x1234 and reference tag 0xFFFFFFFF.
+-- A domain with blocks of 8, application tag 0x1234 and reference tag 0xFFFFFFFF, in edition 1.
 abbrev pub domain : (guardType seed flags : ℕ) → Domain
 domain guardType seed flags = record {
   kind = 1;
@@ -44,6 +44,7 @@ domain guardType seed flags = record {
   seed = seed;
   «application_tag» = 0x1234;
   flags = flags;
+  edition = 1;
 }
 
 -- A configuration with memory unsigned and attribute flag 0.

@@ -4,6 +4,7 @@ pub mod Differing
 pub mod Bursts
 pub mod Destination
 pub mod Copying
+pub mod Editions
 pub mod Escape
 pub mod CaseM
 pub mod Premise

@@ -35,11 +35,11 @@ use Rattle.cstructs.specs.declared.CSession.{CSession}
 
 -- A key's first word. Its lowest byte is the version of the structs.
 abbrev pub keySeal : ℕ
-keySeal = 0x4741524F4B455903
+keySeal = 0x4741524F4B455904
 
 -- A session's first word.
 abbrev pub sessionSeal : ℕ
-sessionSeal = 0x4741524F53455303
+sessionSeal = 0x4741524F53455304
 
 -- ---- signatures and configurations
 

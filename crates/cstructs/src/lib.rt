@@ -20,9 +20,9 @@ pub use validate::c_session_valid;
 pub use validate::c_session_valid_given_key;
 
 // The first words of a key and of a session. The lowest byte is the version of the structs.
-pub(crate) const KEY_SEAL: u64 = 0x4741524F4B455903;
+pub(crate) const KEY_SEAL: u64 = 0x4741524F4B455904;
 
-pub(crate) const SESSION_SEAL: u64 = 0x4741524F53455303;
+pub(crate) const SESSION_SEAL: u64 = 0x4741524F53455304;
 
 #[repr(C)]
 pub struct CSignature {

@@ -7,9 +7,13 @@
 --   remaps d                   the reference tag counts up with each block
 --   escapesByApplication d     the application tag alone escapes a block
 --   escapesByBoth d            the application tag and the reference tag together escape a block
+--   edition1, edition2, sectorSize    the editions of reference tags, and what edition 2 counts
+--   tagStep d                  how much the reference tag grows from one block to the next
+--   tagAt tag step i           a tag i steps on
 --   referenceTag d i           the reference tag of block i
+--   advanced d i               the domain whose block 0 is block i of d
 use mathlib.Core.Bool.{Bool, cond}
-use Prim.Native.Nat.{ℕ, _+_, _%_, _^_}
+use Prim.Native.Nat.{ℕ, _+_, _*_, _/_, _%_, _^_}
 use lib.Dec.{eqb}
 use Rattle.field.specs.declared.Domain.{Domain}
 use Rattle.field.specs.Tests.{bit}
@@ -63,6 +67,7 @@ unsignedDomain = record {
   seed = 0;
   «application_tag» = 0;
   flags = 0;
+  edition = 0;
 }
 
 -- The reference tag counts up with each block.
@@ -77,6 +82,38 @@ escapesByApplication d = bit (d .flags) escapeByApplicationFlag
 abbrev pub escapesByBoth : (d : Domain) → Bool
 escapesByBoth d = bit (d .flags) escapeByBothFlag
 
--- The reference tag of block i: the configured tag, under remap plus i modulo 2^32. The modulus is of the whole sum.
+-- The editions of reference tags (02, request 11). Edition 1 counts blocks. Edition 2 "counts 512-byte steps whatever
+-- the block size"; 512 bytes are a sector.
+abbrev pub edition1 : ℕ
+edition1 = 1
+
+abbrev pub edition2 : ℕ
+edition2 = 2
+
+abbrev pub sectorSize : ℕ
+sectorSize = 512
+
+-- How much the reference tag grows from one block to the next under remap.
+unfoldable pub tagStep : (d : Domain) → ℕ
+tagStep d = cond (eqb (d .edition) edition2) (d .«block_size» / sectorSize) 1
+
+-- A tag i steps on, modulo 2^32. The modulus is of the whole sum.
+abbrev pub tagAt : (tag step i : ℕ) → ℕ
+tagAt tag step i = (tag + i * step) % 2 ^ 32
+
+-- The reference tag of block i: the configured tag, under remap i steps on.
 unfoldable pub referenceTag : (d : Domain) (i : ℕ) → ℕ
-referenceTag d i = cond (remaps d) ((d .«reference_tag» + i) % 2 ^ 32) (d .«reference_tag»)
+referenceTag d i = cond (remaps d) (tagAt (d .«reference_tag») (tagStep d) i) (d .«reference_tag»)
+
+-- The domain whose block 0 is block i of d: it has that block's reference tag.
+abbrev pub advanced : (d : Domain) (i : ℕ) → Domain
+advanced d i = record {
+  kind = d .kind;
+  «block_size» = d .«block_size»;
+  «guard_type» = d .«guard_type»;
+  «reference_tag» = referenceTag d i;
+  seed = d .seed;
+  «application_tag» = d .«application_tag»;
+  flags = d .flags;
+  edition = d .edition;
+}

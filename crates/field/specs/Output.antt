@@ -15,12 +15,13 @@ use Rattle.field.specs.Domains.{signed, remaps}
 use Rattle.field.specs.Fields.{guardBits, applicationBits, referenceBits, bytesOf, bytesIn, fieldOf}
 
 -- What is copied by itself: the guard if guard type and seed agree, the application tag if the configured tags do, the
--- reference tag if configured tag and remap flag do.
+-- reference tag if configured tag, remap flag and edition do (the edition by 02, request 11).
 unfoldable pub agreed : (input output : Domain) → ℕ
 agreed a b =
     cond (eqb (a .«guard_type») (b .«guard_type») && eqb (a .seed) (b .seed)) guardBits 0
     + cond (eqb (a .«application_tag») (b .«application_tag»)) applicationBits 0
-    + cond (eqb (a .«reference_tag») (b .«reference_tag») && Bool·beq (remaps a) (remaps b)) referenceBits 0
+    + cond (eqb (a .«reference_tag») (b .«reference_tag») && (Bool·beq (remaps a) (remaps b)
+    && eqb (a .edition) (b .edition))) referenceBits 0
 
 -- The copy mask in force: with the attribute flag the configured one; else, with signatures on both sides, what agrees;
 -- else nothing.

@@ -10,6 +10,7 @@ pub use judging::judge;
 pub use output_field::copy_mask;
 pub use output_field::merge_fields;
 ghost use mathlib.Core.Path.{_≡_};
+ghost use Prim.Native.Nat.{_<_};
 ghost use Rattle.field.specs.Domains as domains;
 ghost use Rattle.field.specs.Fields as fields;
 
@@ -62,6 +63,13 @@ const LOWEST_APPLICATION_BIT: u8 = 16;
 // Reference tags count modulo 2^32.
 const REFERENCE_TAGS: u64 = 4294967296;
 
+// The editions of reference tags. Edition 1 counts blocks, edition 2 sectors of 512 bytes.
+pub const EDITION_1: u32 = 1;
+
+pub const EDITION_2: u32 = 2;
+
+pub const SECTOR_SIZE: u32 = 512;
+
 // One side of a transfer. A domain of kind 0 has no signature, and its other numbers are ignored. C sees this struct as
 // it is.
 #[repr(C)]
@@ -73,6 +81,7 @@ pub struct Domain {
     pub seed: u16,
     pub application_tag: u16,
     pub flags: u32,
+    pub edition: u32,
 }
 
 // The eight bytes after a block, as three numbers.
@@ -116,6 +125,7 @@ pub fn unsigned_domain() -> Domain
         seed: 0,
         application_tag: 0,
         flags: 0,
+        edition: 0,
     }
 }
 
@@ -147,12 +157,25 @@ pub fn escapes_by_both(d: Domain) -> bool
     d.flags / ESCAPE_BY_BOTH % 2 == 1
 }
 
+// Returns how much the reference tag grows from one block to the next under remap. The bound is that of a 32-bit block
+// size, so that the step times a tag fits 64 bits.
+fn tag_step(d: Domain) -> u64
+    ensures { λ r. ⌜ (r ≡ domains.tagStep d) × (r < 8388608) ⌝ }
+{
+    if d.edition == EDITION_2 {
+        (d.block_size / SECTOR_SIZE) as u64
+    } else {
+        1
+    }
+}
+
 // Returns the reference tag of block i of a transfer.
 fn reference_tag(d: Domain, i: u64) -> u32
     ensures { λ r. ⌜ r ≡ domains.referenceTag d i ⌝ }
 {
     if remaps(d) {
-        std::num::wrapping_add_u32(d.reference_tag, (i % REFERENCE_TAGS) as u32)
+        let growth = i % REFERENCE_TAGS * tag_step(d) % REFERENCE_TAGS;
+        std::num::wrapping_add_u32(d.reference_tag, growth as u32)
     } else {
         d.reference_tag
     }

@@ -39,7 +39,10 @@ fn agreed_mask(a: Domain, b: Domain) -> u8
     );
     let application = bits_if(a.application_tag == b.application_tag, APPLICATION_BITS);
     let remap = crate::remaps(a) == crate::remaps(b);
-    let reference = bits_if((a.reference_tag == b.reference_tag) & remap, REFERENCE_BITS);
+    let reference = bits_if(
+        (a.reference_tag == b.reference_tag) & (remap & (a.edition == b.edition)),
+        REFERENCE_BITS,
+    );
     guard + application + reference
 }
 

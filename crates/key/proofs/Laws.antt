@@ -25,9 +25,9 @@ use Rattle.slot.specs.Slots.{errorNumbers}
 use Rattle.key.specs.declared.Outcome.{Outcome}
 use Rattle.key.specs.declared.Outcome.the-variants.{Done, Refused}
 use Rattle.key.specs.declared.Refusal.{Refusal}
-use Rattle.key.specs.declared.Refusal.the-variants.{BadDomain, EscapeTag, CopyMask, BlockSizes, MemoryLength, PartialBlock, PastLayout, ShortWire, NotConfigured}
+use Rattle.key.specs.declared.Refusal.the-variants.{BadDomain, EscapeTag, CopyMask, BlockSizes, MemoryLength, PartialBlock, PastLayout, ShortWire, NotConfigured, Edition}
 use Rattle.key.specs.Numbers.{refuse}
-use Rattle.key.specs.Configuring.{memoryLimit, badBlockSize, badSeed, badDomain, escapesAlways, sameSize, bothSigned, signatureAnswer, layoutAnswer, configureAnswer}
+use Rattle.key.specs.Configuring.{memoryLimit, badBlockSize, badSeed, badDomain, badEdition, escapesAlways, sameSize, bothSigned, signatureAnswer, layoutAnswer, configureAnswer}
 use Rattle.key.specs.Inner.Admission.{GoodDomain}
 use Rattle.key.specs.Numbers.{then}
 use Rattle.key.specs.Keys.{freshKey, withSlot, configureResultBy, configureResult, checkResult, CameFromCalls, NeverConfiguredZeros, accepts, keyValid, KeyValid}
@@ -46,17 +46,6 @@ not-false false h = let z : _≡_ {A = ℕ} 0 1 = cc in absurd (omega arith)
 pub refuse-done : (b : Bool) (r : Refusal) (rest : Outcome) → refuse b r rest ≡ Done → (b ≡ false) × (rest ≡ Done)
 refuse-done true r rest h = let z : _≡_ {A = ℕ} 0 1 = cc in absurd (omega arith)
 refuse-done false r rest h = (refl, h)
-
--- Four refusals in order return Done only if none of their tests holds.
-none-of-four :
-    (a b c d : Bool) (q r s t : Refusal)
-    → refuse a q (refuse b r (refuse c s (refuse d t Done))) ≡ Done
-    → (a ≡ false) × (b ≡ false) × (c ≡ false) × (d ≡ false)
-none-of-four true b c d q r s t h = let z : _≡_ {A = ℕ} 0 1 = cc in absurd (omega arith)
-none-of-four false true c d q r s t h = let z : _≡_ {A = ℕ} 0 1 = cc in absurd (omega arith)
-none-of-four false false true d q r s t h = let z : _≡_ {A = ℕ} 0 1 = cc in absurd (omega arith)
-none-of-four false false false true q r s t h = let z : _≡_ {A = ℕ} 0 1 = cc in absurd (omega arith)
-none-of-four false false false false q r s t h = (refl, refl, refl, refl)
 
 -- `then` returns Done only if both its outcomes are Done.
 then-done : (a b : Outcome) → then a b ≡ Done → (a ≡ Done) × (b ≡ Done)
@@ -96,10 +85,12 @@ less-offset t s x h = go (ltb (t - s) x) refl
 
 -- ---- an accepted configure
 
--- `Signs s` says that answers 1, 2 and 4 do not apply to the two domains of the signature.
+-- `Signs s` says that answers 1, 20, 2 and 4 do not apply to the two domains of the signature.
 pub record Signs (s : Signature) : Type 0 where
   pub memory : badDomain (s .memory) ≡ false
   pub wire : badDomain (s .wire) ≡ false
+  pub memory-edition : badEdition (s .memory) ≡ false
+  pub wire-edition : badEdition (s .wire) ≡ false
   pub memory-tag : escapesAlways (s .memory) ≡ false
   pub wire-tag : escapesAlways (s .wire) ≡ false
   pub sizes : bothSigned s && not (sameSize s) ≡ false
@@ -108,21 +99,23 @@ pub record Signs (s : Signature) : Type 0 where
 pub signature-done : (s : Signature) → signatureAnswer s ≡ Done → Signs s
 unfolding signatureAnswer
 signature-done s h =
-    let f =
-    none-of-four
-    (badDomain (s .memory) || (badDomain (s .wire) || ltb 1 (s .«attribute_flags»)))
-    (escapesAlways (s .memory) || escapesAlways (s .wire))
-    (eqb (s .«attribute_flags») 1 && not (bothSigned s && sameSize s))
-    (bothSigned s && not (sameSize s))
-    BadDomain
-    EscapeTag
-    CopyMask
-    BlockSizes
-    h in
-    let m = or-false (badDomain (s .memory)) (badDomain (s .wire) || ltb 1 (s .«attribute_flags»)) (f .0) in
-    let w = or-false (badDomain (s .wire)) (ltb 1 (s .«attribute_flags»)) (m .1) in
-    let t = or-false (escapesAlways (s .memory)) (escapesAlways (s .wire)) (f .1) in
-    record { memory = m .0; wire = w .0; memory-tag = t .0; wire-tag = t .1; sizes = f .3 }
+    let first = refuse-done (badDomain (s .memory) || (badDomain (s .wire) || ltb 1 (s .«attribute_flags»))) BadDomain _ h in
+    let edition = refuse-done (badEdition (s .memory) || badEdition (s .wire)) Edition _ (first .1) in
+    let tag = refuse-done (escapesAlways (s .memory) || escapesAlways (s .wire)) EscapeTag _ (edition .1) in
+    let mask = refuse-done (eqb (s .«attribute_flags») 1 && not (bothSigned s && sameSize s)) CopyMask _ (tag .1) in
+    let sizes = refuse-done (bothSigned s && not (sameSize s)) BlockSizes Done (mask .1) in
+    let m = or-false (badDomain (s .memory)) (badDomain (s .wire) || ltb 1 (s .«attribute_flags»)) (first .0) in
+    let e = or-false (badEdition (s .memory)) (badEdition (s .wire)) (edition .0) in
+    let t = or-false (escapesAlways (s .memory)) (escapesAlways (s .wire)) (tag .0) in
+    record {
+      memory = m .0;
+      wire = or-false (badDomain (s .wire)) (ltb 1 (s .«attribute_flags»)) (m .1) .0;
+      memory-edition = e .0;
+      wire-edition = e .1;
+      memory-tag = t .0;
+      wire-tag = t .1;
+      sizes = sizes .0;
+    }
 
 -- `Accepts n c` says that a memory of n bytes is within the limit, the answer to the signature is Done, and the layout
 -- is sound.
@@ -251,22 +244,15 @@ unfolding openAnswer
 admitted k n x dataLength u h =
     let m = k .signature .memory in
     let w = k .signature .wire in
-    let f =
-    none-of-four
-    (not (k .configured))
-    (not (eqb n (k .«memory_length»)))
-    (partial m dataLength || partial w dataLength)
-    (ltb (total (k .layout)) (x + streamLength m dataLength))
-    NotConfigured
-    MemoryLength
-    PartialBlock
-    PastLayout
-    h in
-    let conf = not-false (k .configured) (f .0) in
-    let same = eqb-true n (k .«memory_length») (not-false (eqb n (k .«memory_length»)) (f .1)) in
-    let whole = or-false (partial m dataLength) (partial w dataLength) (f .2) in
+    let a = refuse-done (not (k .configured)) NotConfigured _ h in
+    let b = refuse-done (not (eqb n (k .«memory_length»))) MemoryLength _ (a .1) in
+    let c = refuse-done (partial m dataLength || partial w dataLength) PartialBlock _ (b .1) in
+    let d = refuse-done (ltb (total (k .layout)) (x + streamLength m dataLength)) PastLayout Done (c .1) in
+    let conf = not-false (k .configured) (a .0) in
+    let same = eqb-true n (k .«memory_length») (not-false (eqb n (k .«memory_length»)) (b .0)) in
+    let whole = or-false (partial m dataLength) (partial w dataLength) (c .0) in
     let g = held k u conf in
-    let fits = ltb-false (total (k .layout)) (x + streamLength m dataLength) (f .3) in
+    let fits = ltb-false (total (k .layout)) (x + streamLength m dataLength) (d .0) in
     record {
       configured = conf;
       lent = same;

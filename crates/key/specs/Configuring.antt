@@ -1,14 +1,15 @@
--- Answers 1 to 8 as configure gives them (01, "Numbered answers").
+-- Answers 1 to 8 and 20 as configure gives them (01, "Numbered answers"; 20 by 02, request 11).
 --
 --   memoryLimit                           the most bytes of a lent memory
 --   copyMaskGiven                         the attribute flag of a given copy mask
 --   badBlockSize n, badSeed n, badFlags n a domain's number is bad
 --   badDomain d                           answer 1 applies to a domain
+--   badEdition d                          answer 20 applies to a domain
 --   escapesAlways d                       answer 2 applies to a domain
 --   sameSize s, bothSigned s              both domains have one block size; both are T10-DIF
---   signatureAnswer s                     answers 1 to 4
+--   signatureAnswer s                     answers 1, 20, 2, 3 and 4
 --   layoutAnswer verdict                  answers 5 to 7
---   configureAnswer memoryLength c        configure's answer: 8, 1 to 7, or Done
+--   configureAnswer memoryLength c        configure's answer: 8, 1, 20, 2 to 7, or Done
 use mathlib.Core.Bool.{Bool, _&&_, _||_, not}
 use Prim.Native.Nat.{ℕ, _%_}
 use lib.Dec.{eqb, ltb}
@@ -16,6 +17,7 @@ use Rattle.field.specs.declared.Domain.{Domain}
 use Rattle.field.specs.Tests.{bit}
 use Rattle.field.specs.Domains.{t10Dif, blockSizeStep, blockSizeMin, blockSizeMax, guardTypeMax, seedOnes}
 use Rattle.field.specs.Domains.{escapeByApplicationFlag, escapeByBothFlag, flagsMax}
+use Rattle.field.specs.Domains.{edition1, edition2, sectorSize}
 use Rattle.field.specs.Domains.{signed, escapesByApplication, escapesByBoth}
 use Rattle.field.specs.Judging.{escapeApplicationTag}
 use Rattle.layout.specs.declared.layout_rules.Verdict.{Verdict}
@@ -25,7 +27,7 @@ use Rattle.key.specs.declared.Signature.{Signature}
 use Rattle.key.specs.declared.Configuration.{Configuration}
 use Rattle.key.specs.declared.Outcome.{Outcome}
 use Rattle.key.specs.declared.Outcome.the-variants.{Done, Refused}
-use Rattle.key.specs.declared.Refusal.the-variants.{BadDomain, EscapeTag, CopyMask, BlockSizes}
+use Rattle.key.specs.declared.Refusal.the-variants.{BadDomain, Edition, EscapeTag, CopyMask, BlockSizes}
 use Rattle.key.specs.declared.Refusal.the-variants.{MalformedLayout, OutsideMemory, Overlap, MemoryLength}
 use Rattle.key.specs.Numbers.{refuse, then}
 
@@ -57,6 +59,13 @@ badDomain d =
     (signed d && (badBlockSize (d .«block_size») || (ltb guardTypeMax (d .«guard_type») ||
     (badSeed (d .seed) || badFlags (d .flags)))))
 
+-- Answer 20, of one domain: it is T10-DIF, and its edition is neither 1 nor 2, or it is 2 and the block size is not a
+-- multiple of 512.
+abbrev pub badEdition : (d : Domain) → Bool
+badEdition d =
+    signed d && ((not (eqb (d .edition) edition1) && not (eqb (d .edition) edition2)) ||
+    (eqb (d .edition) edition2 && not (eqb (d .«block_size» % sectorSize) 0)))
+
 -- Answer 2, of one domain: it is T10-DIF with an escape flag and configured application tag 0xFFFF.
 abbrev pub escapesAlways : (d : Domain) → Bool
 escapesAlways d =
@@ -70,13 +79,14 @@ sameSize s = eqb (s .memory .«block_size») (s .wire .«block_size»)
 abbrev pub bothSigned : (s : Signature) → Bool
 bothSigned s = signed (s .memory) && signed (s .wire)
 
--- Answers 1 to 4 in order.
+-- Answers 1, 20, 2, 3 and 4 in this order.
 unfoldable pub signatureAnswer : (s : Signature) → Outcome
 signatureAnswer s =
     refuse (badDomain (s .memory) || (badDomain (s .wire) || ltb copyMaskGiven (s .«attribute_flags»))) BadDomain
+    (refuse (badEdition (s .memory) || badEdition (s .wire)) Edition
     (refuse (escapesAlways (s .memory) || escapesAlways (s .wire)) EscapeTag
     (refuse (eqb (s .«attribute_flags») copyMaskGiven && not (bothSigned s && sameSize s)) CopyMask
-    (refuse (bothSigned s && not (sameSize s)) BlockSizes Done)))
+    (refuse (bothSigned s && not (sameSize s)) BlockSizes Done))))
 
 -- Answers 5 to 7.
 abbrev pub layoutAnswer : (verdict : Verdict) → Outcome
@@ -85,7 +95,7 @@ layoutAnswer Malformed = Refused MalformedLayout
 layoutAnswer Outside = Refused OutsideMemory
 layoutAnswer Overlapping = Refused Overlap
 
--- Configure's answer for a memory of this length: 8, then 1 to 7.
+-- Configure's answer for a memory of this length: 8, then 1, 20, 2, 3 and 4, then 5 to 7.
 unfoldable pub configureAnswer : (memoryLength : ℕ) (c : Configuration) → Outcome
 configureAnswer memoryLength c =
     refuse (ltb memoryLimit memoryLength) MemoryLength

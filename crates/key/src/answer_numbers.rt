@@ -33,5 +33,6 @@ fn refusal_number(r: Refusal) -> u32
         Refusal::LongPacket => 12,
         Refusal::BytesToCome => 13,
         Refusal::NotConfigured => 14,
+        Refusal::Edition => 20,
     }
 }

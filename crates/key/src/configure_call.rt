@@ -24,7 +24,7 @@ fn layout_answer(v: Verdict) -> Outcome
     }
 }
 
-// Returns the first of answers 8 and 1 to 7 that applies.
+// Returns the first of answers 8, 1, 20 and 2 to 7 that applies.
 fn answer(memory_length: u64, c: Configuration) -> Outcome
     ensures { λ r. ⌜ r ≡ answers.configureAnswer «memory_length» c ⌝ }
 {

@@ -61,6 +61,8 @@ pub enum Refusal {
     BytesToCome,
     // 14: the key was never configured.
     NotConfigured,
+    // 20: a domain's edition is neither 1 nor 2, or it is 2 and the block size is not a multiple of 512.
+    Edition,
 }
 
 pub enum Outcome {

@@ -10,25 +10,25 @@ use layout::Entry;
 use layout::Layout;
 use layout::MemoryOffset;
 
-// Which number of the line is which: number 0 is the memory's length, and a domain has seven numbers.
+// Which number of the line is which: number 0 is the memory's length, and a domain has eight numbers.
 const MEMORY_DOMAIN: usize = 1;
 
-const WIRE_DOMAIN: usize = 8;
+const WIRE_DOMAIN: usize = 9;
 
-const ATTRIBUTE_FLAGS: usize = 15;
+const ATTRIBUTE_FLAGS: usize = 17;
 
-const CHECK_MASK: usize = 16;
+const CHECK_MASK: usize = 18;
 
-const COPY_MASK: usize = 17;
+const COPY_MASK: usize = 19;
 
-const USED: usize = 18;
+const USED: usize = 20;
 
-const REPEAT: usize = 19;
+const REPEAT: usize = 21;
 
 // The number of entries that follow, of three numbers each.
-const ENTRIES_GIVEN: usize = 20;
+const ENTRIES_GIVEN: usize = 22;
 
-const FIRST_ENTRY: usize = 21;
+const FIRST_ENTRY: usize = 23;
 
 fn number32(line: &[u8], i: usize) -> u32 {
     (number(line, i) % 0x1_0000_0000) as u32
@@ -42,7 +42,7 @@ fn number8(line: &[u8], i: usize) -> u8 {
     (number(line, i) % 0x100) as u8
 }
 
-// Reads a domain, the seven numbers from number i on.
+// Reads a domain, the eight numbers from number i on.
 fn read_domain(line: &[u8], i: usize) -> Domain
     requires { ⌜ i < 100 ⌝ }
 {
@@ -54,6 +54,7 @@ fn read_domain(line: &[u8], i: usize) -> Domain
         seed: number16(line, i + 4),
         application_tag: number16(line, i + 5),
         flags: number32(line, i + 6),
+        edition: number32(line, i + 7),
     }
 }
 

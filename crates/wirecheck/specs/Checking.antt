@@ -50,6 +50,7 @@ signatureA = record {
     seed = 0;
     «application_tag» = 0x1234;
     flags = 1;
+    edition = 1;
   };
   «attribute_flags» = 0;
   «check_mask» = 0xFF;

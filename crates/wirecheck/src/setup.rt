@@ -23,6 +23,7 @@ fn signature() -> Signature
             seed: 0,
             application_tag: 0x1234,
             flags: 1,
+            edition: 1,
         },
         attribute_flags: 0,
         check_mask: 0xFF,

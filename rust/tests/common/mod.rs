@@ -19,6 +19,7 @@ pub fn signed() -> T10Dif {
         application_tag: 0x1234,
         reference_tag: 0xFFFF_FFFF,
         remap: true,
+        edition: Edition::First,
         escape: Escape::Never,
     }
 }

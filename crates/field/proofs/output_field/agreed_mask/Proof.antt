@@ -27,7 +27,7 @@ add-result-2 c = search needs
 returns : tie.Need-returns
 unfolding agreed
 returns c =
-    let r = c .before .before .before in
+    let r = c .before .before .before .before .before in
     rw (r .before .before .before .before .before .bits-if .ensures .0, r .before .before .bits-if2 .ensures .0, c .bits-if3 .ensures .0)
     (rw (r .before .remaps .ensures, r .remaps2 .ensures))
 
