@@ -1,7 +1,7 @@
-//! The customer's rule book (paper 01, "Signed block transfers") as a program, with requests 2 and 6 of the customer's
-//! change requests (paper 02). It works byte by byte and in exact numbers, in paper 01's order: it is written to be
-//! read beside the papers, not to be fast. Words in quotation marks are paper 01's own, or paper 02's where that is
-//! said. Nothing here comes from the library or from its proofs.
+//! The customer's rule book (paper 01, "Signed block transfers") as a program, with requests 2, 6 and 11 of the
+//! customer's change requests (paper 02). It works byte by byte and in exact numbers, in paper 01's order: it is
+//! written to be read beside the papers, not to be fast. Words in quotation marks are paper 01's own, or paper 02's
+//! where that is said. Nothing here comes from the library or from its proofs.
 
 use std::ops::Range;
 
@@ -14,7 +14,7 @@ pub const GUARD: Range<usize> = 0..2;
 pub const APPLICATION: Range<usize> = 2..4;
 pub const REFERENCE: Range<usize> = 4..8;
 
-// A domain's kinds, guard types and flags.
+// A domain's kinds, guard types, flags and editions.
 pub const NO_SIGNATURE: u32 = 0;
 pub const T10_DIF: u32 = 1;
 pub const CRC: u32 = 0;
@@ -22,6 +22,11 @@ pub const CHECKSUM: u32 = 1;
 pub const REMAP: u32 = 1;
 pub const APPLICATION_ESCAPE: u32 = 2;
 pub const BOTH_ESCAPE: u32 = 4;
+pub const EDITION_1: u32 = 1;
+pub const EDITION_2: u32 = 2;
+
+/// "counts 512-byte steps whatever the block size" (paper 02, request 11): the bytes of a step of edition 2.
+pub const STEP_SIZE: u32 = 512;
 
 /// One side of a transfer.
 #[derive(Clone, Copy, Debug, Default, PartialEq, Eq)]
@@ -33,6 +38,8 @@ pub struct Domain {
     pub seed: u16,
     pub application_tag: u16,
     pub flags: u32,
+    /// "Both editions stay, chosen per domain" (paper 02, request 11): how the reference tag counts.
+    pub edition: u32,
 }
 
 /// "polynomial 0x8BB7, high bit first, no reflection, no final inversion, starting from the seed", a bit at a time.
@@ -93,10 +100,14 @@ impl Domain {
         }
     }
 
-    /// "the configured tag, plus i modulo 4,294,967,296 under remap. The modulus is of the whole sum."
+    /// "the configured tag, plus i modulo 4,294,967,296 under remap. The modulus is of the whole sum." So it is in
+    /// edition 1, and "edition 2 adds i × (block size / 512) under remap" (paper 02, request 11). The modulus is again
+    /// of the whole sum, and i counts blocks from 0 in this transfer.
     fn reference(&self, block: usize) -> u32 {
-        let step = if self.flags & REMAP != 0 { block as u128 } else { 0 };
-        ((u128::from(self.reference_tag) + step) % 4_294_967_296) as u32
+        let i = block as u128;
+        let counted = if self.edition == EDITION_2 { i * u128::from(self.block_size / STEP_SIZE) } else { i };
+        let added = if self.flags & REMAP != 0 { counted } else { 0 };
+        ((u128::from(self.reference_tag) + added) % 4_294_967_296) as u32
     }
 
     /// Byte `at` of the field that this domain's rule computes for a block.
@@ -170,12 +181,15 @@ impl Signature {
     }
 
     /// "the guard is copied if guard type and seed agree, the application tag if the two configured tags agree, the
-    /// reference tag if configured tag and remap flag both agree"
+    /// reference tag if configured tag and remap flag both agree". "Automatic copying of the reference tag also needs
+    /// equal editions" (paper 02, request 11): with remap or without, and also where both editions count alike.
     fn automatic_copy_mask(&self) -> u8 {
         let (memory, wire) = (&self.memory, &self.wire);
         let guard = memory.guard_type == wire.guard_type && memory.seed == wire.seed;
         let application = memory.application_tag == wire.application_tag;
-        let reference = memory.reference_tag == wire.reference_tag && memory.flags & REMAP == wire.flags & REMAP;
+        let reference = memory.reference_tag == wire.reference_tag
+            && memory.flags & REMAP == wire.flags & REMAP
+            && memory.edition == wire.edition;
         let bits_if = |copied: bool, bits: u8| if copied { bits } else { 0 };
         bits_if(guard, 0xC0) | bits_if(application, 0x30) | bits_if(reference, 0x0F)
     }
@@ -410,6 +424,8 @@ pub mod answer {
     pub const LONG_PACKET: u64 = 12;
     pub const BYTES_TO_COME: u64 = 13;
     pub const NOT_CONFIGURED: u64 = 14;
+    /// Paper 02, request 11, adds this one.
+    pub const EDITION: u64 = 20;
     /// The C API adds two answers: a struct is no key, or it is no session.
     pub const NOT_A_KEY: u64 = 1000;
     pub const NOT_A_SESSION: u64 = 1001;
@@ -423,6 +439,18 @@ impl Domain {
             || !matches!(self.seed, 0 | 0xFFFF)
             || !good_flags(self.flags);
         self.kind > T10_DIF || self.signed() && bad_number
+    }
+
+    /// Whether answer 20 applies to one domain: "An edition other than 1 or 2, or edition 2 with a size that isn't a
+    /// multiple of 512" (paper 02, request 11). It applies without remap too. A domain of kind 0 has no edition: "all
+    /// other numbers are ignored".
+    fn has_bad_edition(&self) -> bool {
+        let bad_edition = match self.edition {
+            EDITION_1 => false,
+            EDITION_2 => !self.block_size.is_multiple_of(STEP_SIZE),
+            _ => true,
+        };
+        self.signed() && bad_edition
     }
 
     /// Whether answer 2 applies to one domain: "an escape flag and configured application tag 0xFFFF".
@@ -448,12 +476,15 @@ fn good_flags(flags: u32) -> bool {
 }
 
 impl Signature {
-    /// Answers 1 to 4, in order.
+    /// Answer 1, then 20, which comes "after 1" (paper 02, request 11), then 2 to 4. Each is tested for both domains
+    /// before the next.
     fn judge(&self) -> u64 {
         let (memory, wire) = (&self.memory, &self.wire);
         let one_size = memory.block_size == wire.block_size;
         if memory.is_bad() || wire.is_bad() || self.attribute_flags > COPY_MASK_GIVEN {
             answer::BAD_DOMAIN
+        } else if memory.has_bad_edition() || wire.has_bad_edition() {
+            answer::EDITION
         } else if memory.escapes_its_own_tag() || wire.escapes_its_own_tag() {
             answer::ESCAPE_TAG
         } else if self.attribute_flags == COPY_MASK_GIVEN && !(self.both_signed() && one_size) {
@@ -508,7 +539,7 @@ pub struct Configuration {
 }
 
 impl Configuration {
-    /// Configure's answer: "configure 8, 1 to 7".
+    /// Configure's answer: "configure 8, 1 to 7", with 20 after 1.
     pub fn judge(&self, memory_length: u64) -> u64 {
         if memory_length > MEMORY_LIMIT {
             return answer::MEMORY_LENGTH;

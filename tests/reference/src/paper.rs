@@ -26,7 +26,7 @@ impl Findings {
 /// Compares all numbers of the papers.
 pub fn findings() -> Findings {
     let mut findings = Findings::default();
-    let parts: [fn(&mut Findings); 15] = [
+    let parts: [fn(&mut Findings); 18] = [
         sbc_3,
         rfc_1071,
         cases_a_to_d,
@@ -40,6 +40,9 @@ pub fn findings() -> Findings {
         case_n,
         differing_in_j_to_n,
         sizes,
+        tags_of_edition_2,
+        tags_read_by_the_other_edition,
+        copying_by_edition,
         reasonable_errors,
         huge_lengths,
     ];
@@ -56,7 +59,7 @@ const CASE_A_WIRE: [u8; 32] = [
     0x00, 0x00, 0x00, 0x00, 0x00, 0x00, 0x00, 0x00, 0x00, 0x00, 0x12, 0x34, 0x00, 0x00, 0x00, 0x00,
 ];
 
-/// "block 8, CRC, seed 0, tag 0x1234, reference 0xFFFFFFFF, remap"
+/// "block 8, CRC, seed 0, tag 0x1234, reference 0xFFFFFFFF, remap". 01 counts reference tags as edition 1 does.
 pub fn case_a_domain() -> Domain {
     Domain {
         kind: T10_DIF,
@@ -66,6 +69,7 @@ pub fn case_a_domain() -> Domain {
         seed: 0,
         application_tag: 0x1234,
         flags: REMAP,
+        edition: EDITION_1,
     }
 }
 
@@ -333,6 +337,79 @@ fn sizes(findings: &mut Findings) {
         let layout = list_layout(&[Entry { start: 0, count: 1, skip: 0 }]);
         let configuration = Configuration { layout, signature: signature(domain) };
         findings.compare(&format!("block size {block_size}"), answer, configuration.judge(1));
+    }
+}
+
+/// Sends three blocks of zeros, and returns their reference tags.
+fn reference_tags(domain: Domain) -> [u32; 3] {
+    let (size, unit) = (domain.block_size as usize, domain.block_size as usize + FIELD_SIZE);
+    let (memory, mut wire) = (vec![0; 3 * size], vec![0; 3 * unit]);
+    key(memory.len(), signature(domain)).send(&memory, &mut wire, 0, 3 * size as u64);
+    std::array::from_fn(|block| {
+        let end = (block + 1) * unit;
+        u32::from_be_bytes(std::array::from_fn(|at| wire[end - 4 + at]))
+    })
+}
+
+/// "edition 2 adds i × (block size / 512) under remap" (paper 02, request 11), from case A's tag and from the tag 16.
+/// The sums are worked out by hand, modulo 4,294,967,296.
+fn tags_of_edition_2(findings: &mut Findings) {
+    let (a, remap) = (0xFFFF_FFFF, REMAP);
+    let table = [
+        (512, EDITION_2, remap, [a, 0, 1], [16, 17, 18]),
+        (1_024, EDITION_2, remap, [a, 1, 3], [16, 18, 20]),
+        (1_536, EDITION_2, remap, [a, 2, 5], [16, 19, 22]),
+        (4_096, EDITION_2, remap, [a, 7, 15], [16, 24, 32]),
+        (4_096, EDITION_1, remap, [a, 0, 1], [16, 17, 18]),
+        (4_096, EDITION_2, 0, [a; 3], [16; 3]),
+    ];
+    for (block_size, edition, flags, from_a, from_16) in table {
+        let what = format!("tags of edition {edition} at {block_size}, flags {flags}");
+        let domain = Domain { block_size, edition, flags, ..case_a_domain() };
+        findings.compare(&what, from_a, reference_tags(domain));
+        findings.compare(&what, from_16, reference_tags(Domain { reference_tag: 16, ..domain }));
+    }
+}
+
+/// "Both editions stay, chosen per domain" (paper 02, request 11): three blocks of 1,024 zeros with tags that count by
+/// 1 or by 2 from 16 on, read by either edition. Block 1 begins at byte 1,032, and its tag is 17 or 18: only the last
+/// of the eight bytes differs. The CRC of zeros is 0.
+fn tags_read_by_the_other_edition(findings: &mut Findings) {
+    let table = [
+        (1, EDITION_1, [0; 5]),
+        (2, EDITION_1, [2, 17, 18, 1_032, 1]),
+        (1, EDITION_2, [2, 18, 17, 1_032, 1]),
+        (2, EDITION_2, [0; 5]),
+    ];
+    for (step, edition, error) in table {
+        let block = |i: u8| [vec![0; 1_024], vec![0x00, 0x00, 0x12, 0x34, 0, 0, 0, 16 + i * step]].concat();
+        let wire = [block(0), block(1), block(2)].concat();
+        let domain = Domain { block_size: 1_024, edition, reference_tag: 16, ..case_a_domain() };
+        let mut key = key(3_072, signature(domain));
+        key.receive(&mut [0; 3_072], &wire, 0, 3_072);
+        findings.compare(&format!("tags that count by {step}, edition {edition}"), error, key.check());
+    }
+}
+
+/// "Automatic copying of the reference tag also needs equal editions" (paper 02, request 11). A block of 512 zeros has
+/// the wrong tags 0xABCD and 5. They are copied, or the reference tag is generated. It is then case A's, as the block
+/// is the first. A given copy mask copies both tags.
+fn copying_by_edition(findings: &mut Findings) {
+    let field = [0x00, 0x00, 0xAB, 0xCD, 0x00, 0x00, 0x00, 0x05];
+    let generated = [0x00, 0x00, 0xAB, 0xCD, 0xFF, 0xFF, 0xFF, 0xFF];
+    let input = [vec![0; 512], field.to_vec()].concat();
+    for (memory, wire, automatic) in [(1, 1, field), (1, 2, generated), (2, 1, generated), (2, 2, field)] {
+        for flags in [0, REMAP] {
+            let domain = |edition: u32| Domain { block_size: 512, edition, flags, ..case_a_domain() };
+            let both = Signature { memory: domain(memory), ..signature(domain(wire)) };
+            let given = Signature { attribute_flags: COPY_MASK_GIVEN, copy_mask: 0xFF, ..both };
+            for (signature, copied) in [(both, automatic), (given, field)] {
+                let mut output = vec![0; 520];
+                key(520, signature).send(&input, &mut output, 0, 512);
+                let what = format!("editions {memory} and {wire}, attribute flags {}", signature.attribute_flags);
+                findings.compare(&what, &copied[..], &output[512..]);
+            }
+        }
     }
 }
 

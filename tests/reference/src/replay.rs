@@ -7,7 +7,9 @@ use std::collections::BTreeMap;
 use std::fmt::Write;
 
 const RANDOM_CASES: usize = 200;
-const CASE_FILE_LIMIT: usize = 200_000;
+/// The most bytes that the case file may have. This limit is our own: the file is kept in the repository, and should
+/// not grow unseen. It was 200,000 until request 11, with which a domain has one number more and more cases come.
+const CASE_FILE_LIMIT: usize = 256_000;
 /// The longest text of a random case. Longer cases are left to the live runs.
 const RANDOM_CASE_LIMIT: usize = 700;
 

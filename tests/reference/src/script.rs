@@ -104,7 +104,7 @@ impl Call {
     }
 }
 
-fn domain_numbers(domain: &Domain) -> [u64; 7] {
+fn domain_numbers(domain: &Domain) -> [u64; 8] {
     [
         domain.kind.into(),
         domain.block_size.into(),
@@ -113,6 +113,7 @@ fn domain_numbers(domain: &Domain) -> [u64; 7] {
         domain.seed.into(),
         domain.application_tag.into(),
         domain.flags.into(),
+        domain.edition.into(),
     ]
 }
 
@@ -125,6 +126,7 @@ fn domain_from_numbers(numbers: &[u64]) -> Option<Domain> {
         seed: numbers[4].try_into().ok()?,
         application_tag: numbers[5].try_into().ok()?,
         flags: numbers[6].try_into().ok()?,
+        edition: numbers[7].try_into().ok()?,
     })
 }
 
@@ -146,19 +148,19 @@ fn configure_numbers(memory: u64, configuration: &Configuration) -> Vec<u64> {
 }
 
 fn configure_from_numbers(numbers: &[u64]) -> Option<Call> {
-    let (head, entries) = numbers.split_at_checked(21)?;
+    let (head, entries) = numbers.split_at_checked(23)?;
     let listed = entries.len() / 3;
-    if listed > ENTRY_LIMIT || entries.len() % 3 != 0 || head[20] != listed as u64 {
+    if listed > ENTRY_LIMIT || entries.len() % 3 != 0 || head[22] != listed as u64 {
         return None;
     }
     let signature = Signature {
-        memory: domain_from_numbers(&head[1..8])?,
-        wire: domain_from_numbers(&head[8..15])?,
-        attribute_flags: head[15].try_into().ok()?,
-        check_mask: head[16].try_into().ok()?,
-        copy_mask: head[17].try_into().ok()?,
+        memory: domain_from_numbers(&head[1..9])?,
+        wire: domain_from_numbers(&head[9..17])?,
+        attribute_flags: head[17].try_into().ok()?,
+        check_mask: head[18].try_into().ok()?,
+        copy_mask: head[19].try_into().ok()?,
     };
-    let (used, repeat) = (head[18].try_into().ok()?, head[19].try_into().ok()?);
+    let (used, repeat) = (head[20].try_into().ok()?, head[21].try_into().ok()?);
     let mut layout = Layout { used, repeat, ..Layout::default() };
     for (entry, numbers) in layout.entries.iter_mut().zip(entries.chunks_exact(3)) {
         let (count, skip) = (numbers[1].try_into().ok()?, numbers[2].try_into().ok()?);

@@ -106,10 +106,11 @@ impl<F: Fn(&[Call]) -> bool> Shrinking<F> {
     }
 }
 
-/// Returns smaller numbers to try: 0 first, then ever smaller steps down.
+/// Returns smaller numbers to try: 0 first, then ever smaller steps down. One step is 512, as block sizes of edition 2
+/// are multiples of it.
 fn smaller_numbers(number: u64) -> impl Iterator<Item = u64> {
-    let candidates = [0, 1, number / 2, number.saturating_sub(8), number.saturating_sub(1)];
-    candidates.into_iter().filter(move |&smaller| smaller < number)
+    let steps_down = [512, 8, 1].map(|step| number.saturating_sub(step));
+    [0, 1, number / 2].into_iter().chain(steps_down).filter(move |&smaller| smaller < number)
 }
 
 fn replaced(call: &Call, number: u64, by: u64) -> Option<Call> {

@@ -283,7 +283,8 @@ impl Before {
 /// Returns what the call did that it must not, if anything.
 fn judge(call: &Call, seals: &Seals, before: &Before, reply: &Reply, state: &State) -> Result<(), &'static str> {
     let answer = reply.numbers[0];
-    let known = answer <= answer::NOT_CONFIGURED || answer == answer::NOT_A_KEY || answer == answer::NOT_A_SESSION;
+    let other_answers = [answer::EDITION, answer::NOT_A_KEY, answer::NOT_A_SESSION];
+    let known = answer <= answer::NOT_CONFIGURED || other_answers.contains(&answer);
     let (writable_memory, writable_wire) = if answer == answer::DONE { writable(call) } else { (0, 0) };
     let (memory, wire) = (state.memory.all(), state.wire.all());
     let rules = [
@@ -330,9 +331,9 @@ fn writable(call: &Call) -> (usize, usize) {
 mod tests {
     use super::*;
 
-    /// A made-up fault: a finish when word 46 of the session is damaged.
+    /// A made-up fault: a finish when word 47 of the session is damaged.
     fn shows(case: &HostileCase) -> bool {
-        case.text().contains("session word 46 is") && case.calls.contains(&Call::Finish)
+        case.text().contains("session word 47 is") && case.calls.contains(&Call::Finish)
     }
 
     #[test]
@@ -343,7 +344,7 @@ mod tests {
         for case in failing {
             let text = case.shrunk(Lending::InPlace, shows).text();
             assert!(
-                text.starts_with("session word 46 is") && text.ends_with("\nF\n") && text.lines().count() == 2,
+                text.starts_with("session word 47 is") && text.ends_with("\nF\n") && text.lines().count() == 2,
                 "{text}"
             );
         }

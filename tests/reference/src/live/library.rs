@@ -8,14 +8,14 @@ use crate::model::{Configuration, Domain, Entry, Layout, Signature, ENTRY_LIMIT}
 #[repr(C)]
 #[derive(Clone, Copy, Debug, PartialEq, Eq)]
 pub struct RawKey {
-    pub words: [u64; 45],
+    pub words: [u64; 46],
 }
 
 /// A session, likewise.
 #[repr(C)]
 #[derive(Clone, Copy, Debug, PartialEq, Eq)]
 pub struct RawSession {
-    pub words: [u64; 58],
+    pub words: [u64; 59],
 }
 
 impl RawKey {
@@ -30,14 +30,14 @@ impl RawSession {
     /// Returns the session's own key with 0 as its seal: what a refused finish or abandon returns as the key. By the
     /// header, the session's key follows the session's seal.
     pub fn unsealed_key(&self) -> RawKey {
-        let mut key = RawKey { words: [0; 45] };
-        key.words.copy_from_slice(&self.words[1..46]);
+        let mut key = RawKey { words: [0; 46] };
+        key.words.copy_from_slice(&self.words[1..47]);
         key.unsealed()
     }
 }
 
 /// A struct of zeros, which is no session.
-pub const NO_SESSION: RawSession = RawSession { words: [0; 58] };
+pub const NO_SESSION: RawSession = RawSession { words: [0; 59] };
 
 #[repr(C)]
 #[derive(Clone, Copy)]
@@ -49,6 +49,7 @@ struct RawDomain {
     seed: u16,
     application_tag: u16,
     flags: u32,
+    edition: u32,
 }
 
 #[repr(C)]
@@ -142,19 +143,19 @@ pub struct AbandonResult {
 
 // The sizes that the header asserts.
 const _: () = {
-    assert!(size_of::<RawDomain>() == 24 && size_of::<RawEntry>() == 16 && size_of::<RawConfiguration>() == 320);
-    assert!(size_of::<RawKey>() == 360 && size_of::<RawSession>() == 464 && size_of::<RawError>() == 20);
+    assert!(size_of::<RawDomain>() == 28 && size_of::<RawEntry>() == 16 && size_of::<RawConfiguration>() == 328);
+    assert!(size_of::<RawKey>() == 368 && size_of::<RawSession>() == 472 && size_of::<RawError>() == 20);
     assert!(
-        size_of::<ConfigureResult>() == 368 && size_of::<TransferResult>() == 384 && size_of::<CheckResult>() == 392
+        size_of::<ConfigureResult>() == 376 && size_of::<TransferResult>() == 392 && size_of::<CheckResult>() == 400
     );
-    assert!(size_of::<OpenResult>() == 832 && size_of::<PacketResult>() == 488);
-    assert!(size_of::<FinishResult>() == 832 && size_of::<AbandonResult>() == 368);
+    assert!(size_of::<OpenResult>() == 848 && size_of::<PacketResult>() == 496);
+    assert!(size_of::<FinishResult>() == 848 && size_of::<AbandonResult>() == 376);
 };
 
 /// The symbol of a call: by the header, its name and the struct version.
 macro_rules! symbol {
     ($name:literal) => {
-        concat!($name, "_v3")
+        concat!($name, "_v4")
     };
 }
 
@@ -256,8 +257,8 @@ pub fn abandon(session: RawSession) -> AbandonResult {
 }
 
 fn raw_domain(domain: &Domain) -> RawDomain {
-    let &Domain { kind, block_size, guard_type, reference_tag, seed, application_tag, flags } = domain;
-    RawDomain { kind, block_size, guard_type, reference_tag, seed, application_tag, flags }
+    let &Domain { kind, block_size, guard_type, reference_tag, seed, application_tag, flags, edition } = domain;
+    RawDomain { kind, block_size, guard_type, reference_tag, seed, application_tag, flags, edition }
 }
 
 fn raw_entry(entry: Entry) -> RawEntry {

@@ -1,5 +1,5 @@
-//! What the papers say of packets as a whole, of escaped blocks and of the differing bytes, tested on the model with
-//! random transfers.
+//! What the papers say of packets as a whole, of escaped blocks, of the differing bytes and of the editions, tested on
+//! the model with random transfers.
 
 use super::*;
 use crate::cases::random::plans;
@@ -233,5 +233,48 @@ fn the_set_is_kept_until_check() {
         assert_eq!(key.check(), [0; 5]);
         key.record(Some(*second));
         assert_eq!(key.check()[4], u64::from(second.differing));
+    }
+}
+
+/// A signed domain with remap, whose reference tag is near the wrap in half of all cases.
+fn remapped(rng: &mut Rng, block_size: u32, edition: u32) -> Domain {
+    let random = rng.number() as u32;
+    let reference_tag = if rng.percent(50) { u32::MAX - random % 64 } else { random };
+    Domain { kind: T10_DIF, block_size, reference_tag, flags: REMAP, edition, ..Domain::default() }
+}
+
+/// "counts 512-byte steps whatever the block size" (paper 02, request 11): under edition 2 a block has the tag that its
+/// first 512 bytes have if the same data is in blocks of 512.
+#[test]
+fn a_large_block_has_the_tag_of_its_first_512_bytes() {
+    let mut rng = Rng::new(13);
+    for steps in (1..=8).cycle().take(400) {
+        let large = remapped(&mut rng, 512 * steps as u32, EDITION_2);
+        for block in 0..40 {
+            for edition in [EDITION_1, EDITION_2] {
+                let small = Domain { block_size: 512, edition, ..large };
+                assert_eq!(large.reference(block), small.reference(block * steps), "{large:?}, block {block}");
+            }
+        }
+    }
+}
+
+/// From block to block the tag counts up one by one, as often as the edition says, and 0 follows 0xFFFFFFFF.
+#[test]
+fn tags_count_up_one_by_one() {
+    let mut rng = Rng::new(14);
+    let sizes =
+        [(8, EDITION_1, 1), (4_160, EDITION_1, 1), (512, EDITION_2, 1), (1_536, EDITION_2, 3), (4_096, EDITION_2, 8)];
+    for (block_size, edition, times) in sizes.into_iter().cycle().take(400) {
+        let domain = remapped(&mut rng, block_size, edition);
+        let mut tag = domain.reference_tag;
+        for block in 0..40 {
+            assert_eq!(domain.reference(block), tag, "{domain:?}, block {block}");
+            for _ in 0..times {
+                tag = tag.checked_add(1).unwrap_or(0);
+            }
+        }
+        let without_remap = Domain { flags: 0, ..domain };
+        assert_eq!(without_remap.reference(40), domain.reference_tag);
     }
 }

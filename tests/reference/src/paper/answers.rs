@@ -3,7 +3,7 @@
 
 use super::*;
 
-pub const PARTS: [fn(&mut Findings); 6] = [domains, signatures, layouts, transfers, packets, slot];
+pub const PARTS: [fn(&mut Findings); 7] = [domains, editions, signatures, layouts, transfers, packets, slot];
 
 /// Answers 1 and 2, for the wire domain.
 fn domains(findings: &mut Findings) {
@@ -31,16 +31,52 @@ fn domains(findings: &mut Findings) {
     }
 }
 
+/// Answer 20 (paper 02, request 11): "An edition other than 1 or 2, or edition 2 with a size that isn't a multiple of
+/// 512". Each row is done with remap and without, on the wire and in memory. In a domain of kind 0 it never applies.
+fn editions(findings: &mut Findings) {
+    let table = [
+        (8, 0, 20),
+        (8, 1, 0),
+        (8, 2, 20),
+        (8, 3, 20),
+        (512, 0, 20),
+        (512, 1, 0),
+        (512, 2, 0),
+        (512, 3, 20),
+        (512, 0xFFFF_FFFF, 20),
+        (504, 2, 20),
+        (520, 1, 0),
+        (520, 2, 20),
+        (1_024, 2, 0),
+        (1_536, 2, 0),
+        (4_096, 2, 0),
+        (4_160, 1, 0),
+        (4_160, 2, 20),
+    ];
+    for (block_size, edition, answer) in table {
+        for flags in [0, REMAP] {
+            let domain = Domain { block_size, edition, flags, ..case_a_domain() };
+            let in_memory = Signature { memory: domain, ..Signature::default() };
+            let ignored = Domain { kind: 0, ..domain };
+            let what = format!("size {block_size}, edition {edition}, flags {flags}");
+            findings.compare(&what, answer, configuration(signature(domain)).judge(8));
+            findings.compare(&what, answer, configuration(in_memory).judge(8));
+            findings.compare(&format!("{what}, kind 0"), 0, configuration(signature(ignored)).judge(8));
+        }
+    }
+}
+
 fn configuration(signature: Signature) -> Configuration {
     let layout = list_layout(&[Entry { start: 0, count: 8, skip: 0 }]);
     Configuration { layout, signature }
 }
 
-/// Answers 3 and 4, and 1 before 2 before 3 before 4.
+/// Answers 3 and 4, and 1 before 20 before 2 before 3 before 4.
 fn signatures(findings: &mut Findings) {
     let (a, none) = (case_a_domain(), Domain::default());
     let wide = Domain { block_size: 16, ..a };
     let escape = Domain { flags: 2, application_tag: 0xFFFF, ..a };
+    let edition = Domain { edition: 3, ..a };
     let table = [
         (a, a, 0, 0),
         (a, a, 1, 0),
@@ -55,6 +91,16 @@ fn signatures(findings: &mut Findings) {
         (escape, none, 2, 1),
         (escape, none, 1, 2),
         (wide, escape, 0, 2),
+        (edition, Domain { kind: 2, ..a }, 0, 1),
+        (Domain { kind: 2, ..a }, edition, 0, 1),
+        (edition, none, 2, 1),
+        (none, Domain { block_size: 12, ..edition }, 0, 1),
+        (edition, escape, 0, 20),
+        (escape, edition, 0, 20),
+        (none, Domain { edition: 0, ..escape }, 0, 20),
+        (edition, none, 1, 20),
+        (edition, wide, 1, 20),
+        (wide, edition, 0, 20),
     ];
     for (memory, wire, attribute_flags, answer) in table {
         let signature = Signature { memory, wire, attribute_flags, ..Signature::default() };
@@ -62,6 +108,10 @@ fn signatures(findings: &mut Findings) {
     }
     let beyond = Configuration::default().judge(MEMORY_LIMIT + 1);
     findings.compare("8 before all others", 8, beyond);
+    findings.compare("8 before 20", 8, configuration(signature(edition)).judge(MEMORY_LIMIT + 1));
+    let without_layout = Configuration { signature: signature(edition), ..Configuration::default() };
+    findings.compare("20 before 5", 20, without_layout.judge(8));
+    findings.compare("20 before 6", 20, configuration(signature(edition)).judge(7));
     findings.compare("memory at its limit", 0, configuration(signature(a)).judge(MEMORY_LIMIT));
 }
 

@@ -2,7 +2,7 @@
 
 use super::{layouts, Plan};
 use crate::model::{
-    Configuration, Domain, Entry, Signature, APPLICATION_ESCAPE, BOTH_ESCAPE, COPY_MASK_GIVEN, T10_DIF,
+    Configuration, Domain, Entry, Signature, APPLICATION_ESCAPE, BOTH_ESCAPE, COPY_MASK_GIVEN, EDITION_1, T10_DIF,
 };
 use crate::rng::Rng;
 use crate::script::{Call, BUFFER_SIZE};
@@ -82,6 +82,7 @@ fn domain(rng: &mut Rng, block_size: u32) -> Domain {
         seed: rng.pick(&[0, 0xFFFF]),
         application_tag: rng.pick(tags),
         flags,
+        edition: EDITION_1,
     }
 }
 

@@ -3,7 +3,7 @@
 use super::burst::{every_burst, number_of_bursts, Burst};
 use super::transfer::{Change, Passing, Transfer};
 use crate::live::child;
-use crate::model::{Domain, Signature, APPLICATION_ESCAPE, BOTH_ESCAPE, CRC, FIELD_SIZE, REMAP, T10_DIF};
+use crate::model::{Domain, Signature, APPLICATION_ESCAPE, BOTH_ESCAPE, CRC, EDITION_1, FIELD_SIZE, REMAP, T10_DIF};
 use crate::rng::Rng;
 use std::time::Duration;
 
@@ -124,6 +124,7 @@ impl Stage {
             seed: self.guard_seed,
             application_tag: rng.below(0xFFFF) as u16,
             flags,
+            edition: EDITION_1,
         }
     }
 

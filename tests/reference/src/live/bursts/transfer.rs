@@ -232,7 +232,8 @@ fn accepted(call: &'static str, answer: u64) -> Result<(), Refusal> {
     }
 }
 
-/// Writes the field after each block of a stream: the domain's CRC guard, and the tags of the domain `tags`.
+/// Writes the field after each block of a stream: the domain's CRC guard, and the tags of the domain `tags`, which has
+/// edition 1.
 fn sign(stream: &mut [u8], domain: &Domain, tags: &Domain) {
     let size = domain.block_size as usize;
     let step = tags.flags & REMAP;

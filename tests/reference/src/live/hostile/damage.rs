@@ -28,19 +28,24 @@ pub struct Inverted {
 }
 
 impl Inverted {
-    /// The set of differing bytes of the key's error: by the header, the 32-bit number at byte 356.
+    /// Bits of the 32-bit number at this byte of the struct.
+    fn number(which: Which, place: usize, bits: u32) -> Inverted {
+        Inverted { which, at: place / 8, bits: u64::from(bits) << (place % 8 * 8) }
+    }
+
+    /// The set of differing bytes of the key's error: by the header, the number at byte 364.
     pub fn key_set(bits: u32) -> Inverted {
-        Inverted { which: Which::Key, at: 356 / 8, bits: u64::from(bits) << 32 }
+        Inverted::number(Which::Key, 364, bits)
     }
 
-    /// The set of differing bytes of the session's error: by the header, the 32-bit number at byte 448.
+    /// The set of differing bytes of the session's error: by the header, the number at byte 456.
     pub fn session_set(bits: u32) -> Inverted {
-        Inverted { which: Which::Session, at: 448 / 8, bits: bits.into() }
+        Inverted::number(Which::Session, 456, bits)
     }
 
-    /// The session's spare number: by the header, the 32-bit number at byte 460.
+    /// The session's spare number: by the header, the number at byte 468.
     pub fn session_spare(bits: u32) -> Inverted {
-        Inverted { which: Which::Session, at: 460 / 8, bits: u64::from(bits) << 32 }
+        Inverted::number(Which::Session, 468, bits)
     }
 }
 
