@@ -185,7 +185,7 @@ impl Draft {
 #[cfg(test)]
 mod tests {
     use super::*;
-    use crate::model::answer;
+    use crate::model::{answer, Domain, Rule, Signature, COPY_MASK_GIVEN, EDITION_2, REMAP, STEP_SIZE};
     use std::collections::BTreeMap;
 
     /// The numbers of times that the calls returned each answer, and the checks each error type and set of bytes.
@@ -216,10 +216,63 @@ mod tests {
     #[test]
     fn most_random_cases_are_interesting() {
         let Outcomes { answers, types, .. } = outcomes(1_000);
-        let wanted = (answer::DONE..=answer::NOT_CONFIGURED).chain([answer::NOT_A_KEY, answer::NOT_A_SESSION]);
+        let others = [answer::EDITION, answer::NOT_A_KEY, answer::NOT_A_SESSION];
+        let wanted = (answer::DONE..=answer::NOT_CONFIGURED).chain(others);
         assert_eq!(answers.keys().copied().collect::<Vec<_>>(), wanted.collect::<Vec<_>>());
         assert!(answers[&answer::DONE] > answers.values().sum::<usize>() / 2, "{answers:?}");
         assert!(types.iter().all(|&checks| checks > 50), "{types:?}");
+    }
+
+    /// Returns for each accepted transfer of two blocks or more with a signed side its signature and its data length.
+    fn transfers(cases: u64) -> Vec<(Signature, u64)> {
+        let mut transfers = Vec::new();
+        for number in 0..cases {
+            let mut machine = Machine::new(BUFFER_SIZE, BUFFER_SIZE);
+            for call in case(1, number).calls {
+                let signature = machine.key.configured.map(|configured| configured.signature);
+                let done = machine.run(&call).is_some_and(|numbers| numbers[0] == answer::DONE);
+                let (Call::Send { data_length, .. } | Call::Receive { data_length, .. }, true) = (call, done) else {
+                    continue;
+                };
+                let signature = signature.expect("the key of an accepted transfer is configured");
+                let blocks = Rule::send(&signature).block_size().map_or(0, |size| data_length / size as u64);
+                transfers.extend((blocks > 1).then_some((signature, blocks)));
+            }
+        }
+        transfers
+    }
+
+    /// Whether a domain counts in steps of more than 1.
+    fn counts_faster(domain: &Domain) -> bool {
+        domain.signed() && domain.edition == EDITION_2 && domain.flags & REMAP != 0 && domain.block_size > STEP_SIZE
+    }
+
+    /// Both editions occur on either side, alone and with the other, near the wrap, and without remap.
+    #[test]
+    fn random_cases_count_by_both_editions() {
+        let transfers = transfers(4_000);
+        let times = |holds: &dyn Fn(&Signature, u64) -> bool| {
+            transfers.iter().filter(|(signature, blocks)| holds(signature, *blocks)).count()
+        };
+        let wraps = |domain: &Domain, blocks: u64| {
+            let last = (blocks - 1) * u64::from(domain.block_size / STEP_SIZE);
+            counts_faster(domain) && u64::from(domain.reference_tag) + last > u64::from(u32::MAX)
+        };
+        let mixed = |signature: &Signature| {
+            let Signature { memory, wire, .. } = signature;
+            memory.signed() && wire.signed() && memory.edition != wire.edition
+        };
+        let without_remap =
+            |domain: &Domain| domain.signed() && domain.edition == EDITION_2 && domain.flags & REMAP == 0;
+        let found = [
+            times(&|signature, _| counts_faster(&signature.memory)),
+            times(&|signature, _| counts_faster(&signature.wire)),
+            times(&|signature, blocks| wraps(&signature.memory, blocks) || wraps(&signature.wire, blocks)),
+            times(&|signature, _| mixed(signature) && signature.attribute_flags == 0),
+            times(&|signature, _| mixed(signature) && signature.attribute_flags == COPY_MASK_GIVEN),
+            times(&|signature, _| without_remap(&signature.memory) || without_remap(&signature.wire)),
+        ];
+        assert!(found.iter().all(|&times| times > 20), "{found:?} of {}", transfers.len());
     }
 
     /// The checks report each set of differing bytes: 3 of the guard, 3 of the application tag, 15 of the reference

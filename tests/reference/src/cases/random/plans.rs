@@ -2,7 +2,8 @@
 
 use super::{layouts, Plan};
 use crate::model::{
-    Configuration, Domain, Entry, Signature, APPLICATION_ESCAPE, BOTH_ESCAPE, COPY_MASK_GIVEN, EDITION_1, T10_DIF,
+    Configuration, Domain, Entry, Signature, APPLICATION_ESCAPE, BOTH_ESCAPE, COPY_MASK_GIVEN, EDITION_1, EDITION_2,
+    STEP_SIZE, T10_DIF,
 };
 use crate::rng::Rng;
 use crate::script::{Call, BUFFER_SIZE};
@@ -23,12 +24,15 @@ fn any_plan(rng: &mut Rng) -> Plan {
     let blocks = match block_size {
         0..=64 => rng.between(0, 6),
         65..=520 => rng.between(1, 4),
+        521..=2_048 => rng.between(1, 3),
         _ => rng.between(1, 2),
     };
     let signed = signature.memory.signed() || signature.wire.signed();
     let data_length = if signed { blocks * u64::from(block_size) } else { rng.below(200) };
     let stream = signature.memory.stream_length(data_length) as u64;
-    let offset = if rng.percent(50) { 0 } else { rng.below(30) };
+    // With large blocks the offset may have a whole step of edition 2, which must not be counted.
+    let reach = if block_size < STEP_SIZE { 30 } else { 2 * u64::from(STEP_SIZE) };
+    let offset = if rng.percent(50) { 0 } else { rng.below(reach) };
     let slack = if rng.percent(50) { 0 } else { rng.below(30) };
     let (layout, needed) = layouts::layout(rng, offset + stream + slack);
     let memory = needed + if rng.percent(50) { 0 } else { rng.below(20) };
@@ -37,10 +41,11 @@ fn any_plan(rng: &mut Rng) -> Plan {
 
 fn block_size(rng: &mut Rng) -> u32 {
     match rng.below(100) {
-        0..=49 => 8 * rng.between(1, 3) as u32,
-        50..=91 => 8 * rng.between(1, 8) as u32,
-        92..=97 => rng.pick(&[512, 520]),
-        _ => rng.pick(&[4_096, 4_160]),
+        0..=47 => 8 * rng.between(1, 3) as u32,
+        48..=87 => 8 * rng.between(1, 8) as u32,
+        88..=92 => rng.pick(&[512, 520]),
+        93..=97 => rng.pick(&[1_024, 1_024, 1_024, 1_536, 1_536, 2_048]),
+        _ => rng.pick(&[3_584, 4_096, 4_096, 4_160]),
     }
 }
 
@@ -82,18 +87,35 @@ fn domain(rng: &mut Rng, block_size: u32) -> Domain {
         seed: rng.pick(&[0, 0xFFFF]),
         application_tag: rng.pick(tags),
         flags,
-        edition: EDITION_1,
+        edition: edition(rng, block_size),
     }
 }
 
-fn reference_tag(rng: &mut Rng) -> u32 {
-    let random = rng.number() as u32;
-    rng.pick(&[0, 1, 0xFFFF_FFFF, 0xFFFF_FFFE, 0xFFFF_FFFC, 0x00FF_FFFF, random])
+/// Returns an edition that is valid with this block size.
+fn edition(rng: &mut Rng, block_size: u32) -> u32 {
+    if block_size.is_multiple_of(STEP_SIZE) {
+        rng.pick(&[EDITION_1, EDITION_2, EDITION_2])
+    } else {
+        EDITION_1
+    }
 }
 
-/// Returns a domain that differs from another in one number at most.
+/// Returns a reference tag, mostly one from which a few steps of either edition lead past 0xFFFFFFFF or carry into a
+/// higher byte.
+fn reference_tag(rng: &mut Rng) -> u32 {
+    let random = rng.number() as u32;
+    let near_wrap = u32::MAX - rng.below(16) as u32;
+    rng.pick(&[0, 1, 0xFFFF_FFFF, 0xFFFF_FFFE, 0xFFFF_FFFC, 0x00FF_FFFF, near_wrap, random])
+}
+
+/// Returns a domain that differs from another in one number at most. Where both editions are valid, that is often the
+/// edition.
 fn related(rng: &mut Rng, domain: &Domain) -> Domain {
     let mut other = *domain;
+    if other.block_size.is_multiple_of(STEP_SIZE) && rng.percent(30) {
+        other.edition = EDITION_1 + EDITION_2 - other.edition;
+        return other;
+    }
     match rng.below(8) {
         0 => other.guard_type = 1 - other.guard_type,
         1 => other.seed = !other.seed,
@@ -113,14 +135,15 @@ fn ignored(rng: &mut Rng) -> Domain {
     }
     let block_size = rng.pick(&[0, 8, 12, 4_168]);
     let noise = domain(rng, block_size);
-    Domain { kind: 0, flags: rng.pick(&[2, 6, 99]), application_tag: 0xFFFF, seed: 1, ..noise }
+    let (flags, edition) = (rng.pick(&[2, 6, 99]), rng.pick(&[0, 1, 2, 3, 0xFFFF_FFFF]));
+    Domain { kind: 0, flags, application_tag: 0xFFFF, seed: 1, edition, ..noise }
 }
 
 /// Returns the plan with up to three numbers of its configuration changed, mostly to wrong ones.
 pub fn damaged(rng: &mut Rng, plan: &Plan) -> Plan {
     let mut damaged = plan.clone();
     for _ in 0..rng.pick(&[0, 1, 1, 1, 1, 2, 3]) {
-        if rng.percent(50) {
+        if rng.percent(55) {
             damage_signature(rng, &mut damaged.configuration.signature);
         } else {
             damage_layout(rng, &mut damaged);
@@ -129,18 +152,23 @@ pub fn damaged(rng: &mut Rng, plan: &Plan) -> Plan {
     damaged
 }
 
+/// Block sizes to try with edition 2: some are multiples of 512.
+const EDITION_2_SIZES: [u32; 11] = [8, 256, 504, 512, 520, 768, 1_024, 1_536, 4_088, 4_096, 4_160];
+
 fn damage_signature(rng: &mut Rng, signature: &mut Signature) {
     if rng.percent(15) {
         signature.attribute_flags = rng.pick(&[0, 1, 1, 2, 0xFFFF_FFFF]);
         return;
     }
     let domain = if rng.percent(50) { &mut signature.memory } else { &mut signature.wire };
-    match rng.below(6) {
+    match rng.below(8) {
         0 => domain.kind = rng.pick(&[0, 1, 2, 3, 0xFFFF_FFFF]),
         1 => domain.block_size = rng.pick(&[0, 7, 8, 12, 16, 24, 4_152, 4_160, 4_168, 0xFFFF_FFF8]),
         2 => domain.guard_type = rng.pick(&[0, 1, 2, 0xFFFF_FFFF]),
         3 => domain.seed = rng.pick(&[0, 1, 0xFFFE, 0xFFFF]),
         4 => domain.flags = rng.pick(&[0, 1, 2, 3, 4, 5, 6, 7, 8, 0xFFFF_FFFF]),
+        5 => domain.edition = rng.pick(&[0, 1, 2, 3, 0x101, 0x8000_0002, 0xFFFF_FFFF]),
+        6 => (domain.edition, domain.block_size) = (EDITION_2, rng.pick(&EDITION_2_SIZES)),
         _ => (domain.application_tag, domain.flags) = (0xFFFF, rng.pick(&[0, 1, 2, 3, 4, 5])),
     }
 }

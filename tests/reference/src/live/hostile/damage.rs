@@ -4,7 +4,8 @@ use crate::live::state::State;
 use crate::rng::Rng;
 
 /// Numbers that are valid in some field, or next to a limit.
-const LIKELY_NUMBERS: [u32; 16] = [0, 1, 2, 7, 8, 12, 16, 17, 64, 1024, 1025, 4160, 4168, 0xFFFF, 1 << 31, u32::MAX];
+const LIKELY_NUMBERS: [u32; 17] =
+    [0, 1, 2, 7, 8, 12, 16, 17, 64, 512, 1024, 1025, 4160, 4168, 0xFFFF, 1 << 31, u32::MAX];
 
 pub const WRONG_SEALS: usize = 6;
 
