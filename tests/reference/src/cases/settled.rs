@@ -2,6 +2,7 @@
 
 mod answers;
 mod differing;
+mod editions;
 mod escapes;
 mod packets;
 mod paper;
@@ -14,13 +15,14 @@ use crate::script::Call;
 
 /// Returns all settled cases that fit the buffers of README.md.
 pub fn cases() -> Vec<Case> {
-    let parts = [paper::cases, answers::cases, rules::cases, escapes::cases, differing::cases, packets::cases];
-    parts.iter().flat_map(|cases| cases()).collect()
+    let rules = [rules::cases, escapes::cases, differing::cases, editions::cases, packets::cases];
+    let parts = [paper::cases, answers::cases].into_iter().chain(rules);
+    parts.flat_map(|cases| cases()).collect()
 }
 
 /// Returns the settled cases that need larger buffers.
 pub fn large_cases() -> Vec<Case> {
-    vec![answers::large_memory(), rules::longest_stream()]
+    vec![answers::large_memory(), editions::large_memory(), editions::long_stream(), rules::longest_stream()]
 }
 
 const DIRECTIONS: [Direction; 2] = [Direction::Send, Direction::Receive];

@@ -11,7 +11,7 @@ use super::state::{Reply, State};
 use super::trial::Fault;
 use crate::cases::random::plans;
 use crate::cases::{entry, list_layout, Buffers, Direction, Plan};
-use crate::model::{answer, Configuration, Domain, Signature, CHECKSUM, GUARD_ERROR};
+use crate::model::{answer, Configuration, Domain, Signature, CHECKSUM, EDITION_2, GUARD_ERROR, REFERENCE_ERROR};
 use crate::paper::case_a_domain;
 use crate::rng::Rng;
 use crate::script::{Call, BUFFER_SIZE};
@@ -35,6 +35,8 @@ enum Promise {
     Nothing,
     /// Each call refuses the struct, as no key or no session.
     Refused,
+    /// No call refuses the struct as no key or no session.
+    Accepted,
     /// Check returns these numbers.
     Error([u64; 5]),
 }
@@ -70,6 +72,16 @@ impl HostileCase {
     pub fn hand_made_sets() -> Vec<HostileCase> {
         let sets = [1, 0xC0, 0x100, 1 << 31, u32::MAX];
         sets.into_iter().flat_map(|bits| [refused_structs(bits), error_of_key(bits), error_of_session(bits)]).collect()
+    }
+
+    /// Returns cases with hand-made editions in structs that are otherwise valid. In a configured key, a number to
+    /// which answer 20 applies makes the struct no key, or no session. Any other number is used as it is.
+    pub fn hand_made_editions() -> Vec<HostileCase> {
+        // Edition 1 becomes 0, then 2, at size 8, then 3, and then larger numbers with the same low byte.
+        let refused = [1, 3, 2, 0x100, 0x1_0000, 1 << 31].map(refused_editions).concat();
+        // Edition 0, which the domains of a fresh key and the unsigned domain have here, becomes this number.
+        let ignored = [1, 2, 3, 1 << 31, u32::MAX].map(|bits| [ignored_edition(bits), edition_of_fresh_key(bits)]);
+        [refused, ignored.concat(), vec![other_edition(), edition_2_at_520()]].concat()
     }
 
     /// Returns the number of calls made, or what one of them did that it must not.
@@ -142,6 +154,9 @@ impl Promise {
             Promise::Refused if reply.numbers[0] != refusal(call) => {
                 Err("a struct was accepted that docs/RULES.md says is no key or no session")
             }
+            Promise::Accepted if reply.numbers[0] == refusal(call) => {
+                Err("a struct was refused that docs/RULES.md says is a key or a session")
+            }
             Promise::Error(error)
                 if *call == Call::Check && reply.numbers != [&[answer::DONE], &error[..]].concat() =>
             {
@@ -193,6 +208,64 @@ fn error_of_session(bits: u32) -> HostileCase {
     let calls = vec![plan.packet(0, 0), Call::Abandon, Call::Check];
     let inverted = vec![Inverted::session_set(bits)];
     hand_made("hand-made set of a session's error", setup, inverted, calls, error_of_zeros(bits))
+}
+
+/// A transfer of two blocks of this size between two sides that both have case A's domain, and so edition 1.
+fn two_blocks(block_size: u32) -> Plan {
+    let domain = Domain { block_size, ..case_a_domain() };
+    let signature = Signature { memory: domain, wire: domain, check_mask: 0xFF, ..Signature::default() };
+    let data_length = 2 * u64::from(block_size);
+    let memory = domain.stream_length(data_length) as u64;
+    let layout = list_layout(&[entry(0, memory as u32, 0)]);
+    Plan { memory, configuration: Configuration { layout, signature }, offset: 0, data_length }
+}
+
+/// One domain of a configured key and of its session gets an edition to which answer 20 applies.
+fn refused_editions(bits: u32) -> [HostileCase; 2] {
+    let plan = two_blocks(8);
+    let setup = vec![plan.configure(), plan.open(), Call::Reseal];
+    [Inverted::memory_edition(bits), Inverted::wire_edition(bits)].map(|inverted| {
+        let (setup, calls) = (setup.clone(), every_call(&plan));
+        hand_made("hand-made edition", setup, inverted.to_vec(), calls, Promise::Refused)
+    })
+}
+
+/// Both domains get edition 2, at a block size that is not a multiple of 512.
+fn edition_2_at_520() -> HostileCase {
+    let plan = two_blocks(520);
+    let setup = vec![plan.configure(), plan.open(), Call::Reseal];
+    let bits = case_a_domain().edition ^ EDITION_2;
+    let inverted = [Inverted::memory_edition(bits), Inverted::wire_edition(bits)].concat();
+    hand_made("hand-made edition 2 at 520", setup, inverted, every_call(&plan), Promise::Refused)
+}
+
+/// The wire's domain gets edition 2, at a block size that allows it. Both the key and the session then count by it.
+/// The wire's tags are 0xFFFFFFFF and 0, by edition 1. By edition 2 the second is 1, and its last byte differs.
+fn other_edition() -> HostileCase {
+    let plan = two_blocks(1_024);
+    let mut setup = plan.prepare(Direction::Receive);
+    setup.extend([plan.configure(), plan.open(), Call::Reseal]);
+    let inverted = Inverted::wire_edition(case_a_domain().edition ^ EDITION_2).to_vec();
+    let by_packets = [plan.packet(0, 1_500), plan.packet(1_500, plan.wire_stream() - 1_500), Call::Finish];
+    let calls = [&[plan.receive(), Call::Check][..], &by_packets, &[Call::Check]].concat();
+    let error = Promise::Error([REFERENCE_ERROR, 1, 0, 1_032, 0x01]);
+    hand_made("hand-made edition that is valid", setup, inverted, calls, error)
+}
+
+/// The memory's domain is unsigned, so its edition is ignored.
+fn ignored_edition(bits: u32) -> HostileCase {
+    let plan = one_block();
+    let setup = vec![plan.configure(), plan.open(), Call::Reseal];
+    let inverted = Inverted::memory_edition(bits).to_vec();
+    hand_made("hand-made edition of an unsigned side", setup, inverted, every_call(&plan), Promise::Accepted)
+}
+
+/// A key that was never configured has no domain to which an answer applies. There is no session.
+fn edition_of_fresh_key(bits: u32) -> HostileCase {
+    let plan = one_block();
+    let [of_memory, of_wire] = [Inverted::memory_edition(bits)[0], Inverted::wire_edition(bits)[0]];
+    let calls = vec![Call::Check, plan.send(), plan.receive(), plan.open(), plan.configure(), plan.send()];
+    hand_made("hand-made edition of a fresh key", vec![], vec![of_memory, of_wire], calls, Promise::Accepted)
 }
 
 fn fits(call: &Call) -> bool {

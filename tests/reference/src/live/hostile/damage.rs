@@ -48,6 +48,17 @@ impl Inverted {
     pub fn session_spare(bits: u32) -> Inverted {
         Inverted::number(Which::Session, 468, bits)
     }
+
+    /// The edition of the memory's domain in the key and in the session: by the header, the number at byte 304 of the
+    /// key, and the session's own key begins at byte 8.
+    pub fn memory_edition(bits: u32) -> [Inverted; 2] {
+        [Inverted::number(Which::Key, 304, bits), Inverted::number(Which::Session, 8 + 304, bits)]
+    }
+
+    /// The edition of the wire's domain in both structs: by the header, the number at byte 332 of the key.
+    pub fn wire_edition(bits: u32) -> [Inverted; 2] {
+        [Inverted::number(Which::Key, 332, bits), Inverted::number(Which::Session, 8 + 332, bits)]
+    }
 }
 
 #[derive(Clone)]
