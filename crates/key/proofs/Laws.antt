@@ -27,7 +27,7 @@ use Rattle.key.specs.declared.Outcome.the-variants.{Done, Refused}
 use Rattle.key.specs.declared.Refusal.{Refusal}
 use Rattle.key.specs.declared.Refusal.the-variants.{BadDomain, EscapeTag, CopyMask, BlockSizes, MemoryLength, PartialBlock, PastLayout, ShortWire, NotConfigured, Edition}
 use Rattle.key.specs.Numbers.{refuse}
-use Rattle.key.specs.Configuring.{memoryLimit, badBlockSize, badSeed, badDomain, badEdition, escapesAlways, sameSize, bothSigned, signatureAnswer, layoutAnswer, configureAnswer}
+use Rattle.key.specs.Configuring.{memoryLimit, badBlockSize, badSeed, badDomain, badEdition, escapesAlways, sameSize, badDomains, badEditions, badEscapeTags, badCopyMask, unlikeSizes, signatureAnswer, layoutAnswer, configureAnswer}
 use Rattle.key.specs.Inner.Admission.{GoodDomain}
 use Rattle.key.specs.Numbers.{then}
 use Rattle.key.specs.Keys.{freshKey, withSlot, configureResultBy, configureResult, checkResult, CameFromCalls, NeverConfiguredZeros, accepts, keyValid, KeyValid}
@@ -46,6 +46,16 @@ not-false false h = let z : _≡_ {A = ℕ} 0 1 = cc in absurd (omega arith)
 pub refuse-done : (b : Bool) (r : Refusal) (rest : Outcome) → refuse b r rest ≡ Done → (b ≡ false) × (rest ≡ Done)
 refuse-done true r rest h = let z : _≡_ {A = ℕ} 0 1 = cc in absurd (omega arith)
 refuse-done false r rest h = (refl, h)
+
+-- An answer is Done exactly if no test holds: `accepts-refuse` for one test and those after it, `accepts-last` for the
+-- last.
+pub accepts-refuse : (b : Bool) (r : Refusal) (rest : Outcome) (more : Bool) → accepts rest ≡ not more → accepts (refuse b r rest) ≡ not (b || more)
+accepts-refuse true r rest more h = refl
+accepts-refuse false r rest more h = h
+
+pub accepts-last : (b : Bool) (r : Refusal) → accepts (refuse b r Done) ≡ not b
+accepts-last true r = refl
+accepts-last false r = refl
 
 -- `then` returns Done only if both its outcomes are Done.
 then-done : (a b : Outcome) → then a b ≡ Done → (a ≡ Done) × (b ≡ Done)
@@ -93,17 +103,17 @@ pub record Signs (s : Signature) : Type 0 where
   pub wire-edition : badEdition (s .wire) ≡ false
   pub memory-tag : escapesAlways (s .memory) ≡ false
   pub wire-tag : escapesAlways (s .wire) ≡ false
-  pub sizes : bothSigned s && not (sameSize s) ≡ false
+  pub sizes : unlikeSizes s ≡ false
 
 -- If the answer to a signature is Done, `Signs` holds for it.
 pub signature-done : (s : Signature) → signatureAnswer s ≡ Done → Signs s
 unfolding signatureAnswer
 signature-done s h =
-    let first = refuse-done (badDomain (s .memory) || (badDomain (s .wire) || ltb 1 (s .«attribute_flags»))) BadDomain _ h in
-    let edition = refuse-done (badEdition (s .memory) || badEdition (s .wire)) Edition _ (first .1) in
-    let tag = refuse-done (escapesAlways (s .memory) || escapesAlways (s .wire)) EscapeTag _ (edition .1) in
-    let mask = refuse-done (eqb (s .«attribute_flags») 1 && not (bothSigned s && sameSize s)) CopyMask _ (tag .1) in
-    let sizes = refuse-done (bothSigned s && not (sameSize s)) BlockSizes Done (mask .1) in
+    let first = refuse-done (badDomains s) BadDomain _ h in
+    let edition = refuse-done (badEditions s) Edition _ (first .1) in
+    let tag = refuse-done (badEscapeTags s) EscapeTag _ (edition .1) in
+    let mask = refuse-done (badCopyMask s) CopyMask _ (tag .1) in
+    let sizes = refuse-done (unlikeSizes s) BlockSizes Done (mask .1) in
     let m = or-false (badDomain (s .memory)) (badDomain (s .wire) || ltb 1 (s .«attribute_flags»)) (first .0) in
     let e = or-false (badEdition (s .memory)) (badEdition (s .wire)) (edition .0) in
     let t = or-false (escapesAlways (s .memory)) (escapesAlways (s .wire)) (tag .0) in
@@ -232,7 +242,7 @@ blocks d n b p s = record { good = good-domain d b s; whole = eqb-true (n % d .�
 -- If both domains are signed and answer 4 does not apply, they have one block size.
 one-size :
     (s : Signature)
-    → bothSigned s && not (sameSize s) ≡ false
+    → unlikeSizes s ≡ false
     → signed (s .memory) ≡ true
     → signed (s .wire) ≡ true
     → s .memory .«block_size» ≡ s .wire .«block_size»

@@ -7,6 +7,7 @@
 --   badEdition d                          answer 20 applies to a domain
 --   escapesAlways d                       answer 2 applies to a domain
 --   sameSize s, bothSigned s              both domains have one block size; both are T10-DIF
+--   badDomains s, badEditions s, badEscapeTags s, badCopyMask s, unlikeSizes s    answers 1, 20, 2, 3 and 4 apply
 --   signatureAnswer s                     answers 1, 20, 2, 3 and 4
 --   layoutAnswer verdict                  answers 5 to 7
 --   configureAnswer memoryLength c        configure's answer: 8, 1, 20, 2 to 7, or Done
@@ -79,14 +80,34 @@ sameSize s = eqb (s .memory .«block_size») (s .wire .«block_size»)
 abbrev pub bothSigned : (s : Signature) → Bool
 bothSigned s = signed (s .memory) && signed (s .wire)
 
--- Answers 1, 20, 2, 3 and 4 in this order.
+-- Answer 1: of either domain, or the attribute flags are not 0 or 1.
+abbrev pub badDomains : (s : Signature) → Bool
+badDomains s = badDomain (s .memory) || (badDomain (s .wire) || ltb copyMaskGiven (s .«attribute_flags»))
+
+-- Answer 20, of either domain.
+abbrev pub badEditions : (s : Signature) → Bool
+badEditions s = badEdition (s .memory) || badEdition (s .wire)
+
+-- Answer 2, of either domain.
+abbrev pub badEscapeTags : (s : Signature) → Bool
+badEscapeTags s = escapesAlways (s .memory) || escapesAlways (s .wire)
+
+-- Answer 3: a copy mask is given, and not both domains are T10-DIF with one block size.
+abbrev pub badCopyMask : (s : Signature) → Bool
+badCopyMask s = eqb (s .«attribute_flags») copyMaskGiven && not (bothSigned s && sameSize s)
+
+-- Answer 4: both domains are T10-DIF, with different block sizes.
+abbrev pub unlikeSizes : (s : Signature) → Bool
+unlikeSizes s = bothSigned s && not (sameSize s)
+
+-- Answers 1, 20, 2, 3 and 4 in this order. Each is tested for both domains before the next.
 unfoldable pub signatureAnswer : (s : Signature) → Outcome
 signatureAnswer s =
-    refuse (badDomain (s .memory) || (badDomain (s .wire) || ltb copyMaskGiven (s .«attribute_flags»))) BadDomain
-    (refuse (badEdition (s .memory) || badEdition (s .wire)) Edition
-    (refuse (escapesAlways (s .memory) || escapesAlways (s .wire)) EscapeTag
-    (refuse (eqb (s .«attribute_flags») copyMaskGiven && not (bothSigned s && sameSize s)) CopyMask
-    (refuse (bothSigned s && not (sameSize s)) BlockSizes Done))))
+    refuse (badDomains s) BadDomain
+    (refuse (badEditions s) Edition
+    (refuse (badEscapeTags s) EscapeTag
+    (refuse (badCopyMask s) CopyMask
+    (refuse (unlikeSizes s) BlockSizes Done))))
 
 -- Answers 5 to 7.
 abbrev pub layoutAnswer : (verdict : Verdict) → Outcome

@@ -1,6 +1,7 @@
 // Tests signatures by the rules of answers 1 to 4 and 20.
 ghost use mathlib.Core.Path.{_≡_};
 ghost use Rattle.key.specs.Configuring as answers;
+ghost use Rattle.key.specs.Keys.{accepts};
 use crate::COPY_MASK_GIVEN;
 use crate::Outcome;
 use crate::Refusal;
@@ -49,28 +50,82 @@ fn escapes_always(d: Domain) -> bool
     field::signed(d) & (escapes & (d.application_tag == ESCAPE_APPLICATION_TAG))
 }
 
-// Returns the first of answers 1, 20, 2, 3 and 4 that applies. Each is tested for both domains before the next.
+// True if answer 1 applies to a domain or to the attribute flags.
+fn bad_domains(s: Signature) -> bool
+    ensures { λ r. ⌜ r ≡ answers.badDomains s ⌝ }
+{
+    bad_domain(s.memory) | (bad_domain(s.wire) | (COPY_MASK_GIVEN < s.attribute_flags))
+}
+
+// True if answer 20 applies to a domain.
+fn bad_editions(s: Signature) -> bool
+    ensures { λ r. ⌜ r ≡ answers.badEditions s ⌝ }
+{
+    bad_edition(s.memory) | bad_edition(s.wire)
+}
+
+// True if answer 2 applies to a domain.
+fn bad_escape_tags(s: Signature) -> bool
+    ensures { λ r. ⌜ r ≡ answers.badEscapeTags s ⌝ }
+{
+    escapes_always(s.memory) | escapes_always(s.wire)
+}
+
+// True if both domains have a signature.
+fn both_signed(s: Signature) -> bool
+    ensures { λ r. ⌜ r ≡ answers.bothSigned s ⌝ }
+{
+    field::signed(s.memory) & field::signed(s.wire)
+}
+
+// True if both domains have one block size.
+fn same_size(s: Signature) -> bool
+    ensures { λ r. ⌜ r ≡ answers.sameSize s ⌝ }
+{
+    s.memory.block_size == s.wire.block_size
+}
+
+// True if answer 3 applies.
+fn bad_copy_mask(s: Signature) -> bool
+    ensures { λ r. ⌜ r ≡ answers.badCopyMask s ⌝ }
+{
+    (s.attribute_flags == COPY_MASK_GIVEN) & !(both_signed(s) & same_size(s))
+}
+
+// True if answer 4 applies.
+fn unlike_sizes(s: Signature) -> bool
+    ensures { λ r. ⌜ r ≡ answers.unlikeSizes s ⌝ }
+{
+    both_signed(s) & !same_size(s)
+}
+
+// Returns the first of answers 1, 20, 2, 3 and 4 that applies.
 pub(crate) fn signature_answer(s: Signature) -> Outcome
     ensures { λ r. ⌜ r ≡ answers.signatureAnswer s ⌝ }
 {
-    let memory = s.memory;
-    let wire = s.wire;
-    let both_signed = field::signed(memory) & field::signed(wire);
-    let same_size = memory.block_size == wire.block_size;
-    if bad_domain(memory) | (bad_domain(wire) | (COPY_MASK_GIVEN < s.attribute_flags)) {
+    if bad_domains(s) {
         return Outcome::Refused(Refusal::BadDomain);
     }
-    if bad_edition(memory) | bad_edition(wire) {
+    if bad_editions(s) {
         return Outcome::Refused(Refusal::Edition);
     }
-    if escapes_always(memory) | escapes_always(wire) {
+    if bad_escape_tags(s) {
         return Outcome::Refused(Refusal::EscapeTag);
     }
-    if (s.attribute_flags == COPY_MASK_GIVEN) & !(both_signed & same_size) {
+    if bad_copy_mask(s) {
         return Outcome::Refused(Refusal::CopyMask);
     }
-    if both_signed & !same_size {
+    if unlike_sizes(s) {
         return Outcome::Refused(Refusal::BlockSizes);
     }
     Outcome::Done
+}
+
+// True if none of these answers applies. Every call tests this of a C struct. `signature_answer` has another caller, so
+// the compiler would not join it with that test, and would copy the signature twice.
+pub(crate) fn signature_accepted(s: Signature) -> bool
+    ensures { λ r. ⌜ r ≡ accepts (answers.signatureAnswer s) ⌝ }
+{
+    !(bad_domains(s)
+        | (bad_editions(s) | (bad_escape_tags(s) | (bad_copy_mask(s) | unlike_sizes(s)))))
 }

@@ -2,9 +2,8 @@
 ghost use mathlib.Core.Path.{_≡_};
 ghost use Rattle.key.specs.Keys.{fieldsValid};
 use crate::MEMORY_LIMIT;
-use crate::Outcome;
 use crate::Signature;
-use crate::signature_rules::signature_answer;
+use crate::signature_rules::signature_accepted;
 use layout::Layout;
 
 // True if a key with these fields meets the precondition of the calls. Every key from the calls does; one rebuilt from
@@ -23,9 +22,8 @@ pub fn fields_valid(
     if MEMORY_LIMIT < memory_length {
         return false;
     }
-    let outcome = signature_answer(signature);
-    match outcome {
-        Outcome::Done => layout::fits(layout, memory_length),
-        Outcome::Refused(_) => false,
+    if signature_accepted(signature) {
+        return layout::fits(layout, memory_length);
     }
+    false
 }
