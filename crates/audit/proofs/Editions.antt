@@ -12,12 +12,13 @@ use lib.ListN.{getD}
 use borrow.Author.Tests.{eq-eqb, eqb-true}
 use Rattle.field.specs.declared.Domain.{Domain}
 use Rattle.field.specs.Domains.{edition1, edition2, sectorSize, signed, remaps, tagStep, referenceTag}
-use Rattle.field.proofs.TagLaws.{given-checks, reference-advance}
+use Rattle.field.specs.Fields.{computedField}
+use Rattle.field.proofs.TagLaws.{reference-advance, judged-advance, given-checks, checked-reference}
 use Rattle.layout.proofs.AnswerLaws.{or-false}
 use Rattle.key.specs.Configuring.{badEdition}
 use Rattle.key.proofs.Laws.{configure-done, signature-done}
 use Rattle.cstructs.proofs.Laws.{both}
-use Rattle.audit.specs.Editions.{AcceptedTags, TagsAccepted, OneCount, TagsGoOn, TagsPass, ReferencesAgree, ReferenceCopied, EditionExamples}
+use Rattle.audit.specs.Editions.{AcceptedTags, TagsAccepted, OneCount, TagsGoOn, ChecksGoOn, TagsChecked, ReferencesAgree, ReferenceCopied, EditionExamples}
 use Rattle.audit.proofs.Computing.{opened}
 use Rattle.audit.proofs.Copying.{copied-bytes}
 
@@ -70,13 +71,18 @@ tags-accepted n c h =
 pub one-count : OneCount
 one-count a b s t p q e f same i j at = s .sectors p e i ∙ rw (same, at) (sym (t .sectors q f j))
 
--- A count goes on from any block.
+-- Tags and checks go on from any block.
 pub tags-go-on : TagsGoOn
 tags-go-on = reference-advance
 
--- What a domain's rule computes passes the check.
-pub tags-pass : TagsPass
-tags-pass = given-checks
+pub checks-go-on : ChecksGoOn
+checks-go-on = judged-advance
+
+-- With all bytes of the reference tag checked, that of block i is good after it, and no other one is.
+pub tags-checked : TagsChecked
+unfolding computedField
+tags-checked d m i g x all e =
+    (checked-reference d m i g x (all 4 (omega arith) (omega arith)) (all 5 (omega arith) (omega arith)) (all 6 (omega arith) (omega arith)) (all 7 (omega arith) (omega arith)) e, λ s. rw s (given-checks d m i g))
 
 -- ---- copying
 
@@ -136,6 +142,8 @@ edition-examples = record {
   largest = refl;
   unsigned = refl;
   badDomainFirst = refl;
+  escapeTagLater = refl;
+  escapeTag = refl;
   secondBySecond = refl;
   firstBySecond = refl;
 }

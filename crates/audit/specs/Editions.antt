@@ -1,14 +1,17 @@
--- The two editions of reference tags (02, request 11): "edition 2 adds i × (block size / 512) under remap". The
--- contracts have the tags from `referenceTag`, answer 20 from `badEdition` and the copied bytes from `copyMask`. Here is
--- what these say about an accepted configuration, and examples.
+-- The two editions of reference tags (02, request 11): "edition 2 adds i × (block size / 512) under remap". Contracts
+-- have the tags from `referenceTag`, answer 20 from `badEdition` and the copied bytes from `copyMask`. Here is what these
+-- say about an accepted configuration, and examples.
 --
 --   AcceptedTags d                the editions and the tags of a signed domain that configure accepts
---   TagsAccepted                  both domains of every accepted configuration have such tags
+--   TagsAccepted                  it holds for each signed domain of every accepted configuration
 --   OneCount                      edition 2 counts the same whatever the block size
---   TagsGoOn, TagsPass            a count goes on from any block, and what the rule computes passes the check
+--   TagsGoOn, ChecksGoOn          tags and checks go on from any block
+--   AllReference mask             all bytes of the reference tag are in the mask
+--   fieldWith d guard tag         a field with this guard and reference tag and the domain's application tag
+--   TagsChecked                   which reference tag is good
 --   ReferencesAgree a b           both domains have one reference tag, remap flag and edition
 --   ReferenceCopied               without a given copy mask, the reference tag is copied exactly then
---   tagged, tags, answerTo, readBySecond    the inputs of the examples
+--   tagged, tags, answerTo, readBySecond    what the examples compute
 --   EditionExamples               tags, answers, and a stream of edition 1 that is received by edition 2
 use mathlib.Core.Path.{_≡_}
 use mathlib.Core.Bool.{true, false}
@@ -17,11 +20,11 @@ use mathlib.Core.Logic.{_↔_, _⊎_}
 use Prim.Native.Nat.{ℕ, _+_, _*_, _/_, _%_, _^_, _≤_, _<_}
 use lib.ListN.{replicate}
 use Rattle.field.specs.declared.Domain.{Domain}
+use Rattle.field.specs.declared.ProtectionField.{ProtectionField}
 use Rattle.field.specs.declared.Judgement.the-variants.{Good}
 use Rattle.field.specs.declared.Tag.the-variants.{Reference}
-use Rattle.field.specs.Domains.{edition1, edition2, sectorSize, signed, remaps, referenceTag, advanced}
-use Rattle.field.specs.Fields.{computedField}
-use Rattle.field.specs.Judging.{judged}
+use Rattle.field.specs.Domains.{signed, unsignedDomain, remaps, edition1, edition2, sectorSize, referenceTag, advanced}
+use Rattle.field.specs.Judging.{escaped, judged}
 use Rattle.field.specs.Output.{copyMask}
 use Rattle.key.specs.declared.Configuration.{Configuration}
 use Rattle.key.specs.declared.Outcome.the-variants.{Done}
@@ -30,7 +33,7 @@ use Rattle.key.specs.Configuring.{configureAnswer}
 use Rattle.key.specs.Keys.{freshKey, configureResult, checkResult}
 use Rattle.transfer.specs.Transferring.{receiveResult}
 use Rattle.audit.specs.Errors.{InMask, first, after}
-use Rattle.audit.specs.Cases.{entry, twoEntries, configuration, keyOver, numbers}
+use Rattle.audit.specs.Cases.{entry, twoEntries, keyOver, numbers}
 
 -- The editions and the tags of a signed domain that configure accepts. Block i begins at byte i * block size of the
 -- data, so edition 2 adds the number of sectors before it.
@@ -44,7 +47,7 @@ pub record AcceptedTags (d : Domain) : Type 0 where
       remaps d ≡ true → d .edition ≡ edition2
       → (i : ℕ) → referenceTag d i ≡ (d .«reference_tag» + i * d .«block_size» / sectorSize) % 2 ^ 32
 
--- Both domains of every accepted configuration have such tags if they are signed.
+-- `AcceptedTags` holds for each signed domain of every accepted configuration.
 abbrev pub TagsAccepted : Type 0
 TagsAccepted =
     (memoryLength : ℕ) (c : Configuration) → configureAnswer memoryLength c ≡ Done
@@ -64,9 +67,26 @@ OneCount =
 abbrev pub TagsGoOn : Type 0
 TagsGoOn = (d : Domain) (i j : ℕ) → referenceTag (advanced d i) j ≡ referenceTag d (i + j)
 
--- A field that a domain's rule computes for a block is good after that block, under any check mask.
-abbrev pub TagsPass : Type 0
-TagsPass = (d : Domain) (checkMask i guard : ℕ) → judged d checkMask i guard (computedField d i guard) ≡ Good
+-- In the domain that begins at block i of d, a field found after block j is judged as after block i + j of d.
+abbrev pub ChecksGoOn : Type 0
+ChecksGoOn =
+    (d : Domain) (checkMask i j guard : ℕ) (found : ProtectionField)
+    → judged (advanced d i) checkMask j guard found ≡ judged d checkMask (i + j) guard found
+
+-- All bytes of the reference tag are in the mask.
+abbrev pub AllReference : (mask : ℕ) → Type 0
+AllReference mask = (k : ℕ) → first Reference ≤ k → k < after Reference → InMask mask k
+
+-- A field with this guard and reference tag, and the domain's application tag.
+abbrev pub fieldWith : (d : Domain) (guard tag : ℕ) → ProtectionField
+fieldWith d guard tag = record { guard = guard; application = d .«application_tag»; reference = tag }
+
+-- Take a field with the guard of its block and the domain's application tag, its block not escaped, and all bytes of
+-- the reference tag checked. After block i it is good exactly if its reference tag is that of block i.
+abbrev pub TagsChecked : Type 0
+TagsChecked =
+    (d : Domain) (checkMask i guard tag : ℕ) → AllReference checkMask → escaped d (fieldWith d guard tag) ≡ false
+    → (judged d checkMask i guard (fieldWith d guard tag) ≡ Good) ↔ (tag ≡ referenceTag d i)
 
 -- Both domains have one reference tag, remap flag and edition.
 pub record ReferencesAgree (a b : Domain) : Type 0 where
@@ -75,7 +95,8 @@ pub record ReferencesAgree (a b : Domain) : Type 0 where
   pub edition : a .edition ≡ b .edition
 
 -- "Automatic copying of the reference tag also needs equal editions": with two signed domains and attribute flags 0, a
--- byte of the reference tag is copied exactly if they agree. The configured copy mask is ignored.
+-- byte of the reference tag is copied exactly if they agree. The configured copy mask is ignored. `SendCopies` and
+-- `ReceiveCopies` (`Copying`) say what that means for the bytes.
 abbrev pub ReferenceCopied : Type 0
 ReferenceCopied =
     (mask : ℕ) (a b : Domain) → signed a ≡ true → signed b ≡ true
@@ -84,15 +105,15 @@ ReferenceCopied =
 
 -- ---- examples
 
--- A domain with checksums, application tag 0x1234 and reference tag 0xFFFFFFFC.
-abbrev pub tagged : (kind blockSize flags edition : ℕ) → Domain
-tagged kind blockSize flags edition = record {
+-- A domain with checksums and reference tag 0xFFFFFFFC.
+abbrev pub tagged : (kind blockSize applicationTag flags edition : ℕ) → Domain
+tagged kind blockSize applicationTag flags edition = record {
   kind = kind;
   «block_size» = blockSize;
   «guard_type» = 1;
   «reference_tag» = 0xFFFFFFFC;
   seed = 0;
-  «application_tag» = 0x1234;
+  «application_tag» = applicationTag;
   flags = flags;
   edition = edition;
 }
@@ -100,21 +121,32 @@ tagged kind blockSize flags edition = record {
 -- The reference tags of four blocks under remap.
 abbrev pub tags : (blockSize edition : ℕ) → List ℕ
 tags blockSize edition =
-    let d = tagged 1 blockSize 1 edition in
+    let d = tagged 1 blockSize 0x1234 1 edition in
     referenceTag d 0 ∷ referenceTag d 1 ∷ referenceTag d 2 ∷ referenceTag d 3 ∷ []
 
--- Configure's number for this domain on the wire, with memory unsigned.
-abbrev pub answerTo : (d : Domain) → ℕ
+-- Configure's numbers for this domain on the wire and for this domain in memory, with the other side unsigned.
+abbrev pub answerTo : (d : Domain) → List ℕ
 answerTo d =
-    let l = twoEntries (entry 0 8 0) (entry 0 0 0) 1 1 in
-    number (configureResult freshKey 8 (configuration d 0xFF l) .outcome)
+    let answer : Domain → Domain → ℕ =
+    λ (memory wire : Domain).
+    number (configureResult freshKey 8 (record {
+      signature = record {
+        memory = memory;
+        wire = wire;
+        «attribute_flags» = 0;
+        «check_mask» = 0xFF;
+        «copy_mask» = 0;
+      };
+      layout = twoEntries (entry 0 8 0) (entry 0 0 0) 1 1;
+    }) .outcome) in
+    answer unsignedDomain d ∷ answer d unsignedDomain ∷ []
 
 -- What check returns after edition 2 has received two blocks of 1,024 zeros whose reference tags end in x and y.
 abbrev pub readBySecond : (x y : ℕ) → List ℕ
 readBySecond x y =
     let unit : ℕ → List ℕ =
     λ (last : ℕ). replicate 1024 0 ++ (0xFF ∷ 0xFF ∷ 0x12 ∷ 0x34 ∷ 0xFF ∷ 0xFF ∷ 0xFF ∷ last ∷ []) in
-    let key = keyOver 2048 (tagged 1 1024 1 2) 0xFF in
+    let key = keyOver 2048 (tagged 1 1024 0x1234 1 2) 0xFF in
     numbers (checkResult (receiveResult key (replicate 2048 0) (unit x ++ unit y) 0 2048 .key))
 
 pub record EditionExamples : Type 0 where
@@ -124,15 +156,18 @@ pub record EditionExamples : Type 0 where
   pub threeSectors : tags 1536 2 ≡ 0xFFFFFFFC ∷ 0xFFFFFFFF ∷ 2 ∷ 5 ∷ []
   pub oneSector : tags 512 2 ≡ tags 512 1
   -- 20: editions 0 and 3, and edition 2 with a block size that is not a multiple of 512, also without remap.
-  pub zero : answerTo (tagged 1 512 1 0) ≡ 20
-  pub three : answerTo (tagged 1 512 1 3) ≡ 20
-  pub partSector : answerTo (tagged 1 520 1 2) ≡ 20
-  pub partSectorStill : answerTo (tagged 1 520 0 2) ≡ 20
-  pub accepted : answerTo (tagged 1 512 1 2) ≡ 0
-  pub largest : answerTo (tagged 1 4096 0 2) ≡ 0
-  -- A domain of kind 0 ignores its edition. 1 comes before 20.
-  pub unsigned : answerTo (tagged 0 520 1 3) ≡ 0
-  pub badDomainFirst : answerTo (tagged 1 12 1 3) ≡ 1
+  pub zero : answerTo (tagged 1 512 0x1234 1 0) ≡ 20 ∷ 20 ∷ []
+  pub three : answerTo (tagged 1 512 0x1234 1 3) ≡ 20 ∷ 20 ∷ []
+  pub partSector : answerTo (tagged 1 520 0x1234 1 2) ≡ 20 ∷ 20 ∷ []
+  pub partSectorStill : answerTo (tagged 1 520 0x1234 0 2) ≡ 20 ∷ 20 ∷ []
+  pub accepted : answerTo (tagged 1 512 0x1234 1 2) ≡ 0 ∷ 0 ∷ []
+  pub largest : answerTo (tagged 1 4096 0x1234 0 2) ≡ 0 ∷ 0 ∷ []
+  -- A domain of kind 0 ignores its edition.
+  pub unsigned : answerTo (tagged 0 520 0x1234 1 3) ≡ 0 ∷ 0 ∷ []
+  -- 1 comes before 20, and 20 before 2, which is for the escape flag 2 with the application tag 0xFFFF.
+  pub badDomainFirst : answerTo (tagged 1 12 0x1234 1 3) ≡ 1 ∷ 1 ∷ []
+  pub escapeTagLater : answerTo (tagged 1 512 0xFFFF 3 3) ≡ 20 ∷ 20 ∷ []
+  pub escapeTag : answerTo (tagged 1 512 0xFFFF 3 2) ≡ 2 ∷ 2 ∷ []
   -- A stream of edition 2 has no error. In one of edition 1, the second block has tag 0xFFFFFFFD for 0xFFFFFFFE.
   pub secondBySecond : readBySecond 0xFC 0xFE ≡ 0 ∷ 0 ∷ 0 ∷ 0 ∷ 0 ∷ []
   pub firstBySecond : readBySecond 0xFC 0xFD ≡ 2 ∷ 0xFFFFFFFE ∷ 0xFFFFFFFD ∷ 1032 ∷ 1 ∷ []

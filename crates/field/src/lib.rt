@@ -157,8 +157,8 @@ pub fn escapes_by_both(d: Domain) -> bool
     d.flags / ESCAPE_BY_BOTH % 2 == 1
 }
 
-// Returns how much the reference tag grows from one block to the next under remap. The bound is that of a 32-bit block
-// size, so that the step times a tag fits 64 bits.
+// Returns how much the reference tag grows from one block to the next under remap. It is below 2^23, because a block
+// size has 32 bits, so its product with a block's number modulo 2^32 fits 64 bits.
 fn tag_step(d: Domain) -> u64
     ensures { λ r. ⌜ (r ≡ domains.tagStep d) × (r < 8388608) ⌝ }
 {
