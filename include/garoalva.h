@@ -129,11 +129,12 @@ enum {
 
 /*
  * garoalva_domain.edition: by how much the reference tag grows from one block to the next under GAROALVA_REMAP. It is
- * counted modulo 2^32, so 0 follows 0xFFFFFFFF. A signed domain needs an edition even without that flag, and 0 is none.
+ * counted modulo 2^32, so 0 follows 0xFFFFFFFF. A signed domain needs an edition even without that flag, and 0 is not
+ * one. With edition 2, block_size must be a multiple of GAROALVA_SECTOR_SIZE.
  */
 enum {
     GAROALVA_EDITION_1 = 1, /* by 1: the tag counts blocks */
-    GAROALVA_EDITION_2 = 2  /* by block_size / GAROALVA_SECTOR_SIZE, which must come out even: the tag counts sectors */
+    GAROALVA_EDITION_2 = 2  /* by block_size / GAROALVA_SECTOR_SIZE: the tag counts sectors */
 };
 
 /* garoalva_signature.attribute_flags */
@@ -170,7 +171,7 @@ enum garoalva_answer {
     GAROALVA_ANSWER_LONG_PACKET = 12,     /* the packet is longer than the wire bytes still to come */
     GAROALVA_ANSWER_BYTES_TO_COME = 13,   /* finish, but not all wire bytes have arrived */
     GAROALVA_ANSWER_NOT_CONFIGURED = 14,  /* the key was never configured */
-    GAROALVA_ANSWER_EDITION = 20,         /* edition not 1 or 2, or 2 with a block size that is no multiple of 512 */
+    GAROALVA_ANSWER_EDITION = 20,         /* a signed domain's edition not 1 or 2, or 2 and no whole sectors */
 
     /* The struct is not a key of this version. Where a result holds no key, its key member is such a struct: after an
      * accepted open, a refused finish and a refused abandon. */

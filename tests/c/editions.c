@@ -1,8 +1,7 @@
 /* The editions of reference tags: which configure accepts, and what each counts. */
 #include "tests.h"
-#include <string.h>
 
-/* Configure's answer for a domain on either side. A domain of an older program has edition 0, if it was zeroed. */
+/* Returns configure's answer for a domain on either side. A refused configure leaves the key as it was. */
 static uint64_t answer_for(garoalva_domain domain, bool on_wire) {
     garoalva_configuration configuration = {.layout = {.entries = {{.count = STREAM}}, .used = 1, .repeat = 1}};
     if (on_wire)
@@ -17,6 +16,7 @@ static uint64_t answer_for(garoalva_domain domain, bool on_wire) {
     return configured.answer;
 }
 
+/* The first case is source code that was written for version 0.3: it names no edition. */
 static void test_answers(void) {
     const struct {
         uint32_t kind, block_size, edition;
