@@ -1,7 +1,7 @@
 -- These laws say what an accepted configuration means for reference tags, and when the reference tag is copied. The laws
 -- about the step from block to block are those of the crate `field`.
 use mathlib.Core.Path.{_≡_, refl, ap, sym, _∙_}
-use mathlib.Core.Bool.{Bool, Bool·beq, true, false, _&&_, _||_, not}
+use mathlib.Core.Bool.{Bool, Bool·beq, true, false, _&&_, not}
 use mathlib.Core.List.{List, [], _∷_}
 use mathlib.Core.Logic.{_⊎_, inl, inr}
 use Prim.Native.Nat.{ℕ, zero, suc, _*_, _/_, _%_, _≤_, _<_}

@@ -15,8 +15,8 @@ use Rattle.field.specs.declared.Tag.the-variants.{Reference}
 use Rattle.field.specs.Tests.{bit}
 use Rattle.field.specs.Domains.{remaps, tagStep, tagAt, referenceTag, advanced}
 use Rattle.field.specs.Fields.{bytesOf, bytesIn, computedField}
-use Rattle.field.proofs.Laws.{digit-small}
 use Rattle.field.specs.Judging.{escaped, checkedMask, differs, digit, maskOf, differing, mismatch, firstBad, judged}
+use Rattle.field.proofs.Laws.{digit-small}
 
 -- ---- the wrap
 
