@@ -20,7 +20,7 @@ use Rattle.field.proofs.Laws.{digit-small}
 
 -- ---- the wrap
 
--- The number of steps, split at 2^32.
+-- What the tag of block i has grown by, with the block's number split at 2^32.
 split-steps : (step i : ℕ) → i * step ≡ i / 2 ^ 32 * step * 2 ^ 32 + i % 2 ^ 32 * step
 split-steps step i =
     ap (λ (x : ℕ). x * step) (sym (div-add-mod' i (2 ^ 32)))

