@@ -171,7 +171,7 @@ enum garoalva_answer {
     GAROALVA_ANSWER_LONG_PACKET = 12,     /* the packet is longer than the wire bytes still to come */
     GAROALVA_ANSWER_BYTES_TO_COME = 13,   /* finish, but not all wire bytes have arrived */
     GAROALVA_ANSWER_NOT_CONFIGURED = 14,  /* the key was never configured */
-    GAROALVA_ANSWER_EDITION = 20,         /* a signed domain's edition not 1 or 2, or 2 and no whole sectors */
+    GAROALVA_ANSWER_EDITION = 20,         /* signed: edition not 1 or 2, or 2 and block size not a multiple of 512 */
 
     /* The struct is not a key of this version. Where a result holds no key, its key member is such a struct: after an
      * accepted open, a refused finish and a refused abandon. */

@@ -78,7 +78,8 @@ tags-go-on = reference-advance
 pub checks-go-on : ChecksGoOn
 checks-go-on = judged-advance
 
--- With all bytes of the reference tag checked, that of block i is good after it, and no other one is.
+-- In a block that is not escaped, with all bytes of the reference tag checked, the tag of block i is good after it, and
+-- no other one is.
 pub tags-checked : TagsChecked
 unfolding computedField
 tags-checked d m i g x all e =
@@ -108,7 +109,7 @@ last-four g t r (suc zero) h l = absurd (omega arith)
 last-four g t r (suc (suc zero)) h l = absurd (omega arith)
 last-four g t r (suc (suc (suc zero))) h l = absurd (omega arith)
 
--- Without a given copy mask, the reference tag is copied exactly if both domains configure the same reference tags.
+-- Without a given copy mask, the reference tag is copied exactly if reference tag, remap flag and edition agree.
 pub reference-copied : ReferenceCopied
 reference-copied mask a b s t k h l =
     let bit = ap (λ (bs : List Bool). getD bs k false) (copied-bytes mask a b s t) ∙ last-four _ _ _ k h l in

@@ -8,7 +8,7 @@
 --   keyLine, sessionLine     our own lines for C, 1000 and 1001
 --   CNumberedAnswers         each call of the C API returns the first of its lines, after 1000 or 1001
 use mathlib.Core.Path.{_≡_}
-use mathlib.Core.Bool.{Bool, false, cond, _&&_, _||_, not}
+use mathlib.Core.Bool.{Bool, false, cond, _||_, not}
 use mathlib.Core.List.{List, [], _∷_}
 use Prim.Native.Nat.{ℕ, _+_}
 use lib.Dec.{eqb, ltb}
@@ -20,8 +20,7 @@ use Rattle.slot.specs.Slots.{noError}
 use Rattle.key.specs.declared.Configuration.{Configuration}
 use Rattle.key.specs.declared.Key.{Key}
 use Rattle.key.specs.Numbers.{number}
-use Rattle.key.specs.Configuring.{memoryLimit, copyMaskGiven}
-use Rattle.key.specs.Configuring.{badDomain, badEdition, escapesAlways, sameSize, bothSigned}
+use Rattle.key.specs.Configuring.{memoryLimit, badDomains, badEditions, badEscapeTags, badCopyMask, unlikeSizes}
 use Rattle.key.specs.Keys.{configureResult, NeverConfiguredZeros}
 use Rattle.key.specs.Streams.{streamLength}
 use Rattle.key.specs.Admitting.{partial}
@@ -51,11 +50,11 @@ configureLines memoryLength c =
     let s = c .signature in
     let l = c .layout in
     Line.line 8 (ltb memoryLimit memoryLength)
-    ∷ Line.line 1 (badDomain (s .memory) || (badDomain (s .wire) || ltb copyMaskGiven (s .«attribute_flags»)))
-    ∷ Line.line 20 (badEdition (s .memory) || badEdition (s .wire))
-    ∷ Line.line 2 (escapesAlways (s .memory) || escapesAlways (s .wire))
-    ∷ Line.line 3 (eqb (s .«attribute_flags») copyMaskGiven && not (bothSigned s && sameSize s))
-    ∷ Line.line 4 (bothSigned s && not (sameSize s))
+    ∷ Line.line 1 (badDomains s)
+    ∷ Line.line 20 (badEditions s)
+    ∷ Line.line 2 (badEscapeTags s)
+    ∷ Line.line 3 (badCopyMask s)
+    ∷ Line.line 4 (unlikeSizes s)
     ∷ Line.line 5 (malformed l)
     ∷ Line.line 6 (someBeyond memoryLength (pieces l))
     ∷ Line.line 7 (someShare (pieces l))

@@ -1,6 +1,6 @@
 -- The two editions of reference tags (02, request 11): "edition 2 adds i × (block size / 512) under remap". Contracts
--- have the tags from `referenceTag`, answer 20 from `badEdition` and the copied bytes from `copyMask`. Here is what these
--- say about an accepted configuration, and examples.
+-- have the tags from `referenceTag`, answer 20 from `badEdition` and the copied bytes from `copyMask`. Here is what
+-- these say about an accepted configuration, and examples.
 --
 --   AcceptedTags d                the editions and the tags of a signed domain that configure accepts
 --   TagsAccepted                  it holds for each signed domain of every accepted configuration
@@ -23,7 +23,7 @@ use Rattle.field.specs.declared.Domain.{Domain}
 use Rattle.field.specs.declared.ProtectionField.{ProtectionField}
 use Rattle.field.specs.declared.Judgement.the-variants.{Good}
 use Rattle.field.specs.declared.Tag.the-variants.{Reference}
-use Rattle.field.specs.Domains.{signed, unsignedDomain, remaps, edition1, edition2, sectorSize, referenceTag, advanced}
+use Rattle.field.specs.Domains.{signed, unsignedDomain, remaps, edition1, edition2, sectorSize, referenceTag, domainFrom}
 use Rattle.field.specs.Judging.{escaped, judged}
 use Rattle.field.specs.Output.{copyMask}
 use Rattle.key.specs.declared.Configuration.{Configuration}
@@ -55,7 +55,7 @@ TagsAccepted =
     × (signed (c .signature .wire) ≡ true → AcceptedTags (c .signature .wire))
 
 -- "An array maker's next release counts 512-byte steps whatever the block size": two blocks that begin at the same byte
--- of the data have the same tag.
+-- of the data have the same tag, if both domains have edition 2, remap and one configured tag.
 abbrev pub OneCount : Type 0
 OneCount =
     (a b : Domain) → AcceptedTags a → AcceptedTags b
@@ -65,13 +65,13 @@ OneCount =
 
 -- In the domain that begins at block i of d, block j has the tag of block i + j of d.
 abbrev pub TagsGoOn : Type 0
-TagsGoOn = (d : Domain) (i j : ℕ) → referenceTag (advanced d i) j ≡ referenceTag d (i + j)
+TagsGoOn = (d : Domain) (i j : ℕ) → referenceTag (domainFrom d i) j ≡ referenceTag d (i + j)
 
 -- In the domain that begins at block i of d, a field found after block j is judged as after block i + j of d.
 abbrev pub ChecksGoOn : Type 0
 ChecksGoOn =
     (d : Domain) (checkMask i j guard : ℕ) (found : ProtectionField)
-    → judged (advanced d i) checkMask j guard found ≡ judged d checkMask (i + j) guard found
+    → judged (domainFrom d i) checkMask j guard found ≡ judged d checkMask (i + j) guard found
 
 -- All bytes of the reference tag are in the mask.
 abbrev pub AllReference : (mask : ℕ) → Type 0
@@ -160,6 +160,7 @@ pub record EditionExamples : Type 0 where
   pub three : answerTo (tagged 1 512 0x1234 1 3) ≡ 20 ∷ 20 ∷ []
   pub partSector : answerTo (tagged 1 520 0x1234 1 2) ≡ 20 ∷ 20 ∷ []
   pub partSectorStill : answerTo (tagged 1 520 0x1234 0 2) ≡ 20 ∷ 20 ∷ []
+  -- 0: edition 2 with 512, and with 4,096, the largest multiple of it that is a block size.
   pub accepted : answerTo (tagged 1 512 0x1234 1 2) ≡ 0 ∷ 0 ∷ []
   pub largest : answerTo (tagged 1 4096 0x1234 0 2) ≡ 0 ∷ 0 ∷ []
   -- A domain of kind 0 ignores its edition.

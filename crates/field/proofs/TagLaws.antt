@@ -13,7 +13,7 @@ use Rattle.field.specs.declared.ProtectionField.{ProtectionField}
 use Rattle.field.specs.declared.Judgement.the-variants.{Good, Bad}
 use Rattle.field.specs.declared.Tag.the-variants.{Reference}
 use Rattle.field.specs.Tests.{bit}
-use Rattle.field.specs.Domains.{remaps, tagStep, tagAt, referenceTag, advanced}
+use Rattle.field.specs.Domains.{remaps, tagStep, tagAt, referenceTag, domainFrom}
 use Rattle.field.specs.Fields.{bytesOf, bytesIn, computedField}
 use Rattle.field.specs.Judging.{escaped, checkedMask, differs, digit, maskOf, differing, mismatch, firstBad, judged}
 use Rattle.field.proofs.Laws.{digit-small}
@@ -38,7 +38,7 @@ pub tag-advance : (tag step i j : ℕ) → tagAt (tagAt tag step i) step j ≡ t
 tag-advance tag step i j = omega (arith, add-mul i j step)
 
 -- In the domain that begins at block i of d, block j has the reference tag of block i + j of d.
-pub reference-advance : (d : Domain) (i j : ℕ) → referenceTag (advanced d i) j ≡ referenceTag d (i + j)
+pub reference-advance : (d : Domain) (i j : ℕ) → referenceTag (domainFrom d i) j ≡ referenceTag d (i + j)
 unfolding referenceTag tagStep
 reference-advance d i j = go (d .«reference_tag») (tagStep d) (remaps d)
   where
@@ -47,12 +47,12 @@ reference-advance d i j = go (d .«reference_tag») (tagStep d) (remaps d)
     go t s false = refl
 
 -- In the domain that begins at block i of d, the field computed for block j is that of block i + j of d.
-pub field-advance : (d : Domain) (i j g : ℕ) → computedField (advanced d i) j g ≡ computedField d (i + j) g
+pub field-advance : (d : Domain) (i j g : ℕ) → computedField (domainFrom d i) j g ≡ computedField d (i + j) g
 unfolding computedField
 field-advance d i j g = rw (reference-advance d i j)
 
 -- In the domain that begins at block i of d, block j is judged as block i + j of d.
-pub judged-advance : (d : Domain) (m i j g : ℕ) (found : ProtectionField) → judged (advanced d i) m j g found ≡ judged d m (i + j) g found
+pub judged-advance : (d : Domain) (m i j g : ℕ) (found : ProtectionField) → judged (domainFrom d i) m j g found ≡ judged d m (i + j) g found
 unfolding judged checkedMask escaped
 judged-advance d m i j g found = rw (field-advance d i j g)
 

@@ -11,7 +11,7 @@
 --   tagStep d                  how much the reference tag grows from one block to the next
 --   tagAt tag step i           a tag i steps on
 --   referenceTag d i           the reference tag of block i
---   advanced d i               the domain whose block 0 is block i of d
+--   domainFrom d i             the domain whose block 0 is block i of d
 use mathlib.Core.Bool.{Bool, cond}
 use Prim.Native.Nat.{ℕ, _+_, _*_, _/_, _%_, _^_}
 use lib.Dec.{eqb}
@@ -106,8 +106,8 @@ unfoldable pub referenceTag : (d : Domain) (i : ℕ) → ℕ
 referenceTag d i = cond (remaps d) (tagAt (d .«reference_tag») (tagStep d) i) (d .«reference_tag»)
 
 -- The domain whose block 0 is block i of d: it has that block's reference tag.
-abbrev pub advanced : (d : Domain) (i : ℕ) → Domain
-advanced d i = record {
+abbrev pub domainFrom : (d : Domain) (i : ℕ) → Domain
+domainFrom d i = record {
   kind = d .kind;
   «block_size» = d .«block_size»;
   «guard_type» = d .«guard_type»;

@@ -80,15 +80,15 @@ sameSize s = eqb (s .memory .«block_size») (s .wire .«block_size»)
 abbrev pub bothSigned : (s : Signature) → Bool
 bothSigned s = signed (s .memory) && signed (s .wire)
 
--- Answer 1: of either domain, or the attribute flags are not 0 or 1.
+-- Answer 1 applies to a domain, or the attribute flags are not 0 or 1.
 abbrev pub badDomains : (s : Signature) → Bool
 badDomains s = badDomain (s .memory) || (badDomain (s .wire) || ltb copyMaskGiven (s .«attribute_flags»))
 
--- Answer 20, of either domain.
+-- Answer 20 applies to a domain.
 abbrev pub badEditions : (s : Signature) → Bool
 badEditions s = badEdition (s .memory) || badEdition (s .wire)
 
--- Answer 2, of either domain.
+-- Answer 2 applies to a domain.
 abbrev pub badEscapeTags : (s : Signature) → Bool
 badEscapeTags s = escapesAlways (s .memory) || escapesAlways (s .wire)
 

@@ -25,8 +25,9 @@ pub const BOTH_ESCAPE: u32 = 4;
 pub const EDITION_1: u32 = 1;
 pub const EDITION_2: u32 = 2;
 
-/// "counts 512-byte steps whatever the block size" (paper 02, request 11): the bytes of a step of edition 2.
-pub const STEP_SIZE: u32 = 512;
+/// "counts 512-byte steps whatever the block size" (paper 02, request 11). Here 512 bytes are a sector, and a step is
+/// what the tag grows by from one block to the next.
+pub const SECTOR_SIZE: u32 = 512;
 
 /// One side of a transfer.
 #[derive(Clone, Copy, Debug, Default, PartialEq, Eq)]
@@ -105,7 +106,7 @@ impl Domain {
     /// of the whole sum, and i counts blocks from 0 in this transfer.
     fn reference(&self, block: usize) -> u32 {
         let i = block as u128;
-        let counted = if self.edition == EDITION_2 { i * u128::from(self.block_size / STEP_SIZE) } else { i };
+        let counted = if self.edition == EDITION_2 { i * u128::from(self.block_size / SECTOR_SIZE) } else { i };
         let added = if self.flags & REMAP != 0 { counted } else { 0 };
         ((u128::from(self.reference_tag) + added) % 4_294_967_296) as u32
     }
@@ -447,7 +448,7 @@ impl Domain {
     fn has_bad_edition(&self) -> bool {
         let bad_edition = match self.edition {
             EDITION_1 => false,
-            EDITION_2 => !self.block_size.is_multiple_of(STEP_SIZE),
+            EDITION_2 => !self.block_size.is_multiple_of(SECTOR_SIZE),
             _ => true,
         };
         self.signed() && bad_edition

@@ -185,7 +185,7 @@ impl Draft {
 #[cfg(test)]
 mod tests {
     use super::*;
-    use crate::model::{answer, Domain, Rule, Signature, COPY_MASK_GIVEN, EDITION_2, REMAP, STEP_SIZE};
+    use crate::model::{answer, Domain, Rule, Signature, COPY_MASK_GIVEN, EDITION_2, REMAP, SECTOR_SIZE};
     use std::collections::BTreeMap;
 
     /// The numbers of times that the calls returned each answer, and the checks each error type and set of bytes.
@@ -223,7 +223,8 @@ mod tests {
         assert!(types.iter().all(|&checks| checks > 50), "{types:?}");
     }
 
-    /// Returns for each accepted transfer of two blocks or more with a signed side its signature and its data length.
+    /// Returns the signature and the number of blocks of each accepted transfer of two blocks or more with a signed
+    /// side.
     fn transfers(cases: u64) -> Vec<(Signature, u64)> {
         let mut transfers = Vec::new();
         for number in 0..cases {
@@ -244,7 +245,7 @@ mod tests {
 
     /// Whether a domain counts in steps of more than 1.
     fn counts_faster(domain: &Domain) -> bool {
-        domain.signed() && domain.edition == EDITION_2 && domain.flags & REMAP != 0 && domain.block_size > STEP_SIZE
+        domain.signed() && domain.edition == EDITION_2 && domain.flags & REMAP != 0 && domain.block_size > SECTOR_SIZE
     }
 
     /// Both editions occur on either side, alone and with the other, near the wrap, and without remap.
@@ -255,7 +256,7 @@ mod tests {
             transfers.iter().filter(|(signature, blocks)| holds(signature, *blocks)).count()
         };
         let wraps = |domain: &Domain, blocks: u64| {
-            let last = (blocks - 1) * u64::from(domain.block_size / STEP_SIZE);
+            let last = (blocks - 1) * u64::from(domain.block_size / SECTOR_SIZE);
             counts_faster(domain) && u64::from(domain.reference_tag) + last > u64::from(u32::MAX)
         };
         let mixed = |signature: &Signature| {

@@ -6,7 +6,7 @@ use mathlib.Core.Path.{_≡_, sym, _∙_}
 use mathlib.Core.Bool.{false}
 use Rattle.key.specs.Configuring.{badDomains, badEditions, badEscapeTags, badCopyMask, signatureAnswer}
 
--- Where a test failed, its answer does not apply.
+-- After a test that was false, its answer does not apply.
 no-1 : (e : tie.Else1) → badDomains (e .before .before .args .s) ≡ false
 no-1 e = sym (e .before .bad-domains .ensures) ∙ e .if1 .left
 

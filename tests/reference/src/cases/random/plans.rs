@@ -3,7 +3,7 @@
 use super::{layouts, Plan};
 use crate::model::{
     Configuration, Domain, Entry, Signature, APPLICATION_ESCAPE, BOTH_ESCAPE, COPY_MASK_GIVEN, EDITION_1, EDITION_2,
-    STEP_SIZE, T10_DIF,
+    SECTOR_SIZE, T10_DIF,
 };
 use crate::rng::Rng;
 use crate::script::{Call, BUFFER_SIZE};
@@ -30,8 +30,8 @@ fn any_plan(rng: &mut Rng) -> Plan {
     let signed = signature.memory.signed() || signature.wire.signed();
     let data_length = if signed { blocks * u64::from(block_size) } else { rng.below(200) };
     let stream = signature.memory.stream_length(data_length) as u64;
-    // With large blocks the offset may have a whole step of edition 2, which must not be counted.
-    let reach = if block_size < STEP_SIZE { 30 } else { 2 * u64::from(STEP_SIZE) };
+    // With large blocks the offset may have a whole sector, which edition 2 must not count.
+    let reach = if block_size < SECTOR_SIZE { 30 } else { 2 * u64::from(SECTOR_SIZE) };
     let offset = if rng.percent(50) { 0 } else { rng.below(reach) };
     let slack = if rng.percent(50) { 0 } else { rng.below(30) };
     let (layout, needed) = layouts::layout(rng, offset + stream + slack);
@@ -93,7 +93,7 @@ fn domain(rng: &mut Rng, block_size: u32) -> Domain {
 
 /// Returns an edition that is valid with this block size.
 fn edition(rng: &mut Rng, block_size: u32) -> u32 {
-    if block_size.is_multiple_of(STEP_SIZE) {
+    if block_size.is_multiple_of(SECTOR_SIZE) {
         rng.pick(&[EDITION_1, EDITION_2, EDITION_2])
     } else {
         EDITION_1
@@ -112,7 +112,7 @@ fn reference_tag(rng: &mut Rng) -> u32 {
 /// edition.
 fn related(rng: &mut Rng, domain: &Domain) -> Domain {
     let mut other = *domain;
-    if other.block_size.is_multiple_of(STEP_SIZE) && rng.percent(30) {
+    if other.block_size.is_multiple_of(SECTOR_SIZE) && rng.percent(30) {
         other.edition = EDITION_1 + EDITION_2 - other.edition;
         return other;
     }

@@ -292,7 +292,7 @@ fn damaged_tags(direction: Direction) -> Case {
 }
 
 /// Sends and receives 300 blocks of 1,024 bytes, for which README.md's buffers have no room. Their fields have 2,400
-/// bytes, more than four steps, and these are not counted. At last the tag of the last block is damaged.
+/// bytes, more than four sectors, and these are not counted. At last the tag of the last block is damaged.
 pub fn long_stream() -> Case {
     let plan = blocks(signature(unsigned(), Domain { reference_tag: 0xFFFF_FF00, ..dif_of(1_024, EDITION_2) }), 300);
     let (stream, cut) = (plan.wire_stream(), 200_000);
