@@ -9,7 +9,7 @@ use native.Mathlib.Nat.{mul-assoc}
 use native.Mathlib.Omega.{arith}
 use lib.Dec.{eqb}
 use lib.ListN.{getD}
-use borrow.Author.Tests.{eq-eqb, eqb-true}
+use borrow.Author.Tests.{not-false, eq-eqb, eqb-true}
 use Rattle.field.specs.declared.Domain.{Domain}
 use Rattle.field.specs.Domains.{edition1, edition2, sectorSize, signed, remaps, tagStep, referenceTag}
 use Rattle.field.specs.Fields.{computedField}
@@ -35,11 +35,7 @@ known-edition e h = go (eqb e edition1) (eqb e edition2) refl refl h
 
 -- If answer 20 does not apply to a signed domain of edition 2, its blocks are whole sectors.
 whole-sectors : (e n : ℕ) → eqb e edition2 && not (eqb (n % sectorSize) 0) ≡ false → e ≡ edition2 → n % sectorSize ≡ 0
-whole-sectors e n h s = go (eqb (n % sectorSize) 0) refl (rw (eq-eqb e edition2 s) at h)
-  where
-    go : (b : Bool) → eqb (n % sectorSize) 0 ≡ b → not b ≡ false → n % sectorSize ≡ 0
-    go true p z = eqb-true (n % sectorSize) 0 p
-    go false p z = let y : _≡_ {A = ℕ} 0 1 = cc in absurd (omega arith)
+whole-sectors e n h s = eqb-true (n % sectorSize) 0 (not-false (eqb (n % sectorSize) 0) (rw (eq-eqb e edition2 s) at h))
 
 -- The sectors of i blocks of whole sectors.
 sectors-of : (i n : ℕ) → n % sectorSize ≡ 0 → i * (n / sectorSize) ≡ i * n / sectorSize

@@ -3,14 +3,14 @@
 -- these say about an accepted configuration, and examples.
 --
 --   AcceptedTags d                the editions and the tags of a signed domain that configure accepts
---   TagsAccepted                  it holds for each signed domain of every accepted configuration
+--   TagsAccepted                  AcceptedTags holds for each signed domain of every accepted configuration
 --   OneCount                      edition 2 counts the same whatever the block size
 --   TagsGoOn, ChecksGoOn          tags and checks go on from any block
 --   AllReference mask             all bytes of the reference tag are in the mask
 --   fieldWith d guard tag         a field with this guard and reference tag and the domain's application tag
 --   TagsChecked                   which reference tag is good
 --   ReferencesAgree a b           both domains have one reference tag, remap flag and edition
---   ReferenceCopied               without a given copy mask, the reference tag is copied exactly then
+--   ReferenceCopied               without a given copy mask, the reference tag is copied exactly if ReferencesAgree
 --   tagged, tags, answerTo, readBySecond    what the examples compute
 --   EditionExamples               tags, answers, and a stream of edition 1 that is received by edition 2
 use mathlib.Core.Path.{_≡_}
@@ -23,7 +23,8 @@ use Rattle.field.specs.declared.Domain.{Domain}
 use Rattle.field.specs.declared.ProtectionField.{ProtectionField}
 use Rattle.field.specs.declared.Judgement.the-variants.{Good}
 use Rattle.field.specs.declared.Tag.the-variants.{Reference}
-use Rattle.field.specs.Domains.{signed, unsignedDomain, remaps, edition1, edition2, sectorSize, referenceTag, domainFrom}
+use Rattle.field.specs.Domains.{signed, unsignedDomain, remaps}
+use Rattle.field.specs.Domains.{edition1, edition2, sectorSize, referenceTag, domainFrom}
 use Rattle.field.specs.Judging.{escaped, judged}
 use Rattle.field.specs.Output.{copyMask}
 use Rattle.key.specs.declared.Configuration.{Configuration}
@@ -95,7 +96,7 @@ pub record ReferencesAgree (a b : Domain) : Type 0 where
   pub edition : a .edition ≡ b .edition
 
 -- "Automatic copying of the reference tag also needs equal editions": with two signed domains and attribute flags 0, a
--- byte of the reference tag is copied exactly if they agree. The configured copy mask is ignored. `SendCopies` and
+-- byte of the reference tag is copied exactly if `ReferencesAgree` holds. The configured copy mask is ignored. `SendCopies` and
 -- `ReceiveCopies` (`Copying`) say what that means for the bytes.
 abbrev pub ReferenceCopied : Type 0
 ReferenceCopied =

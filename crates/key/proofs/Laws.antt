@@ -5,7 +5,7 @@ use Prim.Native.Nat.{ℕ, _+_, _-_, _*_, _/_, _%_, _≤_, _<_}
 use native.Mathlib.Nat.{mul-le-mul-left, div-add-mod'}
 use native.Mathlib.Omega.{arith}
 use lib.Dec.{eqb, ltb}
-use borrow.Author.Tests.{eqb-true, eqb-false, lt-ltb, le-ltb, ltb-true, ltb-false}
+use borrow.Author.Tests.{not-false, eqb-true, eqb-false, lt-ltb, le-ltb, ltb-true, ltb-false}
 use Rattle.field.specs.declared.Domain.{Domain}
 use Rattle.field.specs.declared.ProtectionField.{ProtectionField}
 use Rattle.field.specs.Domains.{signed, escapesByApplication, escapesByBoth}
@@ -37,10 +37,6 @@ use Rattle.key.specs.Admitting.{partial, openAnswer, transferAnswer}
 use Rattle.key.specs.Inner.Admission.{Bounded, Blocks, Admitted}
 
 -- ---- tests
-
-not-false : (a : Bool) → not a ≡ false → a ≡ true
-not-false true h = refl
-not-false false h = let z : _≡_ {A = ℕ} 0 1 = cc in absurd (omega arith)
 
 -- `refuse` returns Done only if its test is false and the rest is Done.
 pub refuse-done : (b : Bool) (r : Refusal) (rest : Outcome) → refuse b r rest ≡ Done → (b ≡ false) × (rest ≡ Done)

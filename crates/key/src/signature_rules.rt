@@ -122,8 +122,8 @@ pub(crate) fn signature_answer(s: Signature) -> Outcome
 }
 
 // True if none of answers 1, 20, 2, 3 and 4 applies. A call of the C API tests this of each configured key that it is
-// given, alone or in a session. `signature_answer` has another caller, so the compiler would not join it with that test:
-// it would copy the signature twice, and packets without signatures would take a tenth longer.
+// given, alone or in a session. `signature_answer` has another caller, so the compiler would not join it with that
+// test: it would copy the signature twice, and packets without signatures would take a tenth longer.
 pub(crate) fn signature_accepted(s: Signature) -> bool
     ensures { λ r. ⌜ r ≡ accepts (answers.signatureAnswer s) ⌝ }
 {
