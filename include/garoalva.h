@@ -129,8 +129,8 @@ enum {
 
 /*
  * garoalva_domain.edition: by how much the reference tag grows from one block to the next under GAROALVA_REMAP. It is
- * counted modulo 2^32, so 0 follows 0xFFFFFFFF. A signed domain needs an edition even without that flag, and 0 is not
- * one. With edition 2, block_size must be a multiple of GAROALVA_SECTOR_SIZE.
+ * counted modulo 2^32, so 0 follows 0xFFFFFFFF. A signed domain needs an edition even without that flag; 0 is no
+ * edition. With edition 2, block_size must be a multiple of GAROALVA_SECTOR_SIZE.
  */
 enum {
     GAROALVA_EDITION_1 = 1, /* by 1: the tag counts blocks */

@@ -31,8 +31,8 @@ pub struct BlockError {
     pub expected: u32,
     /// Where the block's data begins in the input stream.
     pub offset: u64,
-    /// The bytes of the bad tag that differ and were in the check mask of the transfer that found the error. A byte that
-    /// was not checked is not among them, nor is a byte of another tag.
+    /// The bytes of the bad tag that differ and were in the check mask of the transfer that found the error. A byte
+    /// that was not checked is not among them, nor is a byte of another tag.
     pub differing: Mask,
 }
 
