@@ -1,4 +1,7 @@
 // This crate returns the smaller or the larger of two numbers.
+
+#![tactic(auto)]
+
 ghost use Rattle.std.specs.Prelude.{◌≡◌};
 ghost use Prim.Native.Nat as nat;
 

@@ -1,4 +1,7 @@
 // Exports the guard of a block to C, for the benchmark and the tests. It is no part of libgaroalva.
+
+#![tactic(auto)]
+
 ghost use Rattle.std.specs.Prelude.{◌≡◌};
 ghost use Rattle.guard.specs.Guards.{guard_of};
 

@@ -1,6 +1,9 @@
 // The C API (include/garoalva.h): 01's calls on plain structs. A struct that came from these calls gets what the call
 // of the crates below returns, one that only looks so is used as it is, and any other is refused with a number of our
 // own.
+
+#![tactic(auto)]
+
 mod key_calls;
 mod session_calls;
 
@@ -17,14 +20,14 @@ pub(crate) const NOT_A_KEY: u64 = 1000;
 pub(crate) const NOT_A_SESSION: u64 = 1001;
 
 #[repr(C)]
-#[derive(Drop)]
+#[derive(Clone, Copy)]
 pub struct CConfigureResult {
     pub key: CKey,
     pub answer: u64,
 }
 
 #[repr(C)]
-#[derive(Drop)]
+#[derive(Clone, Copy)]
 pub struct CTransferResult {
     pub key: CKey,
     pub answer: u64,
@@ -33,7 +36,7 @@ pub struct CTransferResult {
 }
 
 #[repr(C)]
-#[derive(Drop)]
+#[derive(Clone, Copy)]
 pub struct CCheckResult {
     pub key: CKey,
     pub answer: u64,
@@ -42,7 +45,7 @@ pub struct CCheckResult {
 }
 
 #[repr(C)]
-#[derive(Drop)]
+#[derive(Clone, Copy)]
 pub struct COpenResult {
     pub key: CKey,
     pub session: CSession,
@@ -50,7 +53,7 @@ pub struct COpenResult {
 }
 
 #[repr(C)]
-#[derive(Drop)]
+#[derive(Clone, Copy)]
 pub struct CPacketResult {
     pub session: CSession,
     pub answer: u64,
@@ -59,7 +62,7 @@ pub struct CPacketResult {
 }
 
 #[repr(C)]
-#[derive(Drop)]
+#[derive(Clone, Copy)]
 pub struct CFinishResult {
     pub key: CKey,
     pub session: CSession,
@@ -67,7 +70,7 @@ pub struct CFinishResult {
 }
 
 #[repr(C)]
-#[derive(Drop)]
+#[derive(Clone, Copy)]
 pub struct CAbandonResult {
     pub key: CKey,
     pub answer: u64,

@@ -1,5 +1,8 @@
 // The CRC of T10-DIF (SBC-3; 01, "The protection field"). docs/FOLDING.md explains how it is computed. Numbers stand
 // for polynomials over GF(2), so to add is to xor in this crate.
+
+#![tactic(auto)]
+
 mod bytes;
 mod overlay;
 mod six_words;
@@ -25,7 +28,7 @@ const FRONT_AND_REAR: usize = 512;
 const LONG: usize = 1024;
 
 // Six words that may stand for the register and the first bytes of a part, and how many bytes these are.
-#[derive(Drop)]
+#[derive(Clone, Copy)]
 struct Head {
     words: SixWords,
     taken: usize,

@@ -11,7 +11,7 @@ use crate::six_words::{SixWords, add_two_words, append_word, only_word};
 use crate::words::{load, word};
 
 // The sum of the rear and the three fronts so far, and the last word of the front with the one before it.
-#[derive(Drop)]
+#[derive(Clone, Copy)]
 struct Overlaid {
     sum: SixWords,
     last: u64,

@@ -11,7 +11,7 @@ use crate::bytes;
 use crate::words::word;
 
 // 384 bits, the word a the highest.
-#[derive(Drop)]
+#[derive(Clone, Copy)]
 pub(crate) struct SixWords {
     a: u64,
     b: u64,

@@ -1,4 +1,7 @@
 // This crate has keys and sessions as the structs that C sees. It converts to and from them, and tests which are valid.
+
+#![tactic(auto)]
+
 mod convert;
 mod validate;
 
@@ -17,7 +20,7 @@ pub(crate) const KEY_SEAL: u64 = 0x4741524F4B455904;
 pub(crate) const SESSION_SEAL: u64 = 0x4741524F53455304;
 
 #[repr(C)]
-#[derive(Drop)]
+#[derive(Clone, Copy)]
 pub struct CSignature {
     pub memory: Domain,
     pub wire: Domain,
@@ -28,14 +31,14 @@ pub struct CSignature {
 }
 
 #[repr(C)]
-#[derive(Drop)]
+#[derive(Clone, Copy)]
 pub struct CConfiguration {
     pub layout: Layout,
     pub signature: CSignature,
 }
 
 #[repr(C)]
-#[derive(Drop)]
+#[derive(Clone, Copy)]
 pub struct CKey {
     pub seal: u64,
     pub memory_length: u64,
@@ -47,7 +50,7 @@ pub struct CKey {
 
 // The position in a stream: the number of the current block, the offset in its unit, and the running guard.
 #[repr(C)]
-#[derive(Drop)]
+#[derive(Clone, Copy)]
 pub struct CSide {
     pub index: u64,
     pub at: u64,
@@ -57,7 +60,7 @@ pub struct CSide {
 }
 
 #[repr(C)]
-#[derive(Drop)]
+#[derive(Clone, Copy)]
 pub struct CSession {
     pub seal: u64,
     pub key: CKey,

@@ -1,5 +1,8 @@
 // difcheck checks the fields of a wire on standard input, and prints the numbers that check returns, or "refused 9". If
 // standard input can't be read, it says so and prints no numbers.
+
+#![tactic(auto)]
+
 mod reading;
 
 use libc::STDOUT_FILENO;

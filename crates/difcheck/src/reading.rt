@@ -5,7 +5,7 @@ ghost use Rattle.difcheck.specs.Reading.{Within};
 use libc::STDIN_FILENO;
 
 // The number of bytes read, or Failed if a read failed: then nothing is known of the input.
-#[derive(Drop)]
+#[derive(Clone, Copy)]
 pub(crate) enum Input {
     Failed,
     Bytes(usize),

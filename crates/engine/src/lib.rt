@@ -1,5 +1,8 @@
 // The engine of the transfer rule: it takes bytes of the input stream and stores bytes of the output stream through a
 // layout. It does not know which side is memory, and it knows no key.
+
+#![tactic(auto)]
+
 mod parts;
 mod sides;
 mod stream;
@@ -13,7 +16,7 @@ use slot::Slot;
 pub use stream::{feed, in_step};
 
 // The settings of a transfer. The copy mask is the one in force, configured or automatic.
-#[derive(Drop)]
+#[derive(Clone, Copy)]
 pub struct Rule {
     pub input: Domain,
     pub output: Domain,
@@ -22,7 +25,7 @@ pub struct Rule {
 }
 
 // The position in a domain's stream: the number of the current block, the offset in its unit, and the running guard.
-#[derive(Drop)]
+#[derive(Clone, Copy)]
 pub struct Side {
     pub index: u64,
     pub at: u64,
@@ -31,7 +34,7 @@ pub struct Side {
 
 // A transfer in progress. The field bytes of the current input unit are held until the unit is whole; data bytes are
 // stored at once.
-#[derive(Drop)]
+#[derive(Clone, Copy)]
 pub struct Progress {
     pub input: Side,
     pub output: Side,
@@ -40,7 +43,7 @@ pub struct Progress {
 }
 
 // What feeding returns: the progress, and the cursor at which the next output byte goes.
-#[derive(Drop)]
+#[derive(Clone, Copy)]
 pub struct FeedResult {
     pub progress: Progress,
     pub cursor: Cursor,

@@ -1,5 +1,8 @@
 // The protection field: what a domain's rule computes, what a check finds, and what is output (01, "The protection
 // field" and "The transfer rule").
+
+#![tactic(auto)]
+
 mod bytes;
 mod judging;
 mod output_field;
@@ -71,7 +74,7 @@ pub const SECTOR_SIZE: u32 = 512;
 // One side of a transfer. A domain of kind 0 has no signature, and its other numbers are ignored. C sees this struct as
 // it is.
 #[repr(C)]
-#[derive(Drop)]
+#[derive(Clone, Copy)]
 pub struct Domain {
     pub kind: u32,
     pub block_size: u32,
@@ -84,7 +87,7 @@ pub struct Domain {
 }
 
 // The eight bytes after a block, as three numbers.
-#[derive(Drop)]
+#[derive(Clone, Copy)]
 pub struct ProtectionField {
     pub guard: u16,
     pub application: u16,
@@ -92,7 +95,7 @@ pub struct ProtectionField {
 }
 
 // One of the three numbers of a field.
-#[derive(Drop)]
+#[derive(Clone, Copy)]
 pub enum Tag {
     Guard,
     Application,
@@ -102,7 +105,7 @@ pub enum Tag {
 // A tag whose found value differs from the computed one. Actual is what the rule computes, expected what was found, and
 // differing the mask of the tag's checked bytes in which they differ. It is a u32, because a u8 would leave three more
 // bytes of padding in an error slot.
-#[derive(Drop)]
+#[derive(Clone, Copy)]
 pub struct Mismatch {
     pub tag: Tag,
     pub actual: u32,
@@ -110,7 +113,7 @@ pub struct Mismatch {
     pub differing: u32,
 }
 
-#[derive(Drop)]
+#[derive(Clone, Copy)]
 pub enum Judgement {
     Good,
     Bad(Mismatch),

@@ -1,4 +1,7 @@
 // The CRC and checksum guards of a block's data, computed as the data arrives (01, "The protection field").
+
+#![tactic(auto)]
+
 mod checksum;
 
 ghost use Rattle.std.specs.Prelude.{◌≡◌, ◌≤◌, length};
@@ -11,7 +14,7 @@ pub const CHECKSUM: u32 = 1;
 
 // The guard of the bytes so far: the CRC register, or the ones' complement sum and whether it holds an odd number of
 // bytes.
-#[derive(Drop)]
+#[derive(Clone, Copy)]
 pub struct RunningGuard {
     pub value: u16,
     pub odd: bool,

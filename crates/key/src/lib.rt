@@ -1,5 +1,8 @@
 // A key holds a layout over one lent memory, two domains, masks, and one error slot. The answers are those that 01
 // numbers.
+
+#![tactic(auto)]
+
 mod admission;
 mod answer_numbers;
 mod check_call;
@@ -26,7 +29,7 @@ const MEMORY_LIMIT: u64 = 16777216;
 const COPY_MASK_GIVEN: u32 = 1;
 
 // A refusal for each number of 01's table.
-#[derive(Drop)]
+#[derive(Clone, Copy)]
 pub enum Refusal {
     // 1: a domain's numbers or the attribute flags are bad.
     BadDomain,
@@ -60,14 +63,14 @@ pub enum Refusal {
     Edition,
 }
 
-#[derive(Drop)]
+#[derive(Clone, Copy)]
 pub enum Outcome {
     Done,
     Refused(Refusal),
 }
 
 // Both domains, and which field bytes are checked and copied. The card's manual calls this a signature.
-#[derive(Drop)]
+#[derive(Clone, Copy)]
 pub struct Signature {
     pub memory: Domain,
     pub wire: Domain,
@@ -76,14 +79,14 @@ pub struct Signature {
     pub copy_mask: u8,
 }
 
-#[derive(Drop)]
+#[derive(Clone, Copy)]
 pub struct Configuration {
     pub signature: Signature,
     pub layout: Layout,
 }
 
 // Each call takes a key by value and returns the one to go on with.
-#[derive(Drop)]
+#[derive(Clone, Copy)]
 pub struct Key {
     pub configured: bool,
     pub memory_length: u64,
@@ -93,14 +96,14 @@ pub struct Key {
 }
 
 // What configure returns: the key is unchanged if the outcome is a refusal.
-#[derive(Drop)]
+#[derive(Clone, Copy)]
 pub struct ConfigureResult {
     pub outcome: Outcome,
     pub key: Key,
 }
 
 // What check returns: the numbers of the recorded error, and the key with its slot emptied.
-#[derive(Drop)]
+#[derive(Clone, Copy)]
 pub struct CheckResult {
     pub error: ErrorNumbers,
     pub key: Key,

@@ -11,7 +11,7 @@ use crate::{Entry, Layout, LayoutOffset, MemoryOffset, sizes};
 // A position in the layout: the next byte is the memory byte at `place`, and `left` bytes of its piece follow each
 // other from there. The next piece is that of `entry` in `repeat` or, if `entry` is the used count, the first of the
 // next repeat.
-#[derive(Drop)]
+#[derive(Clone, Copy)]
 pub struct Cursor {
     pub place: MemoryOffset,
     pub left: u64,

@@ -9,7 +9,7 @@ use crate::sizes::repeat_start;
 use crate::{ENTRIES_MAX, Entry, Layout, MemoryOffset, PIECES_MAX};
 
 // What is wrong with a layout, in the order of 01's table, or nothing (Sound).
-#[derive(Drop)]
+#[derive(Clone, Copy)]
 pub enum Verdict {
     Sound,
     // Answer 5: a wrong number of entries, repeats or bytes.
@@ -21,7 +21,7 @@ pub enum Verdict {
 }
 
 // The memory bytes of a piece: from start on, and before end.
-#[derive(Drop)]
+#[derive(Clone, Copy)]
 struct Extent {
     start: MemoryOffset,
     end: MemoryOffset,

@@ -1,4 +1,7 @@
 // A layout says which memory bytes a transfer runs over, and in what order (01, "Layouts").
+
+#![tactic(auto)]
+
 mod cursor;
 mod layout_rules;
 mod moves;
@@ -19,7 +22,7 @@ const PIECES_MAX: u64 = 1024;
 // Repeat r of an entry is the piece of count bytes from start + r * (count + skip) on. C sees entries and layouts as
 // they are.
 #[repr(C)]
-#[derive(Drop)]
+#[derive(Clone, Copy)]
 pub struct Entry {
     pub start: MemoryOffset,
     pub count: u32,
@@ -29,7 +32,7 @@ pub struct Entry {
 // The layout's bytes run over the used entries in order, then over their next repeat, and so on. A list layout has
 // repeat 1.
 #[repr(C)]
-#[derive(Drop)]
+#[derive(Clone, Copy)]
 pub struct Layout {
     pub entries: [Entry; ENTRIES_MAX],
     pub used: u32,

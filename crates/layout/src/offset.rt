@@ -3,12 +3,12 @@
 ghost use Rattle.std.specs.Prelude.{◌≡◌, ◌+◌, ◌<◌, ◌^◌};
 
 // The number of a layout byte, counted from the layout's first byte.
-#[derive(Drop)]
+#[derive(Clone, Copy)]
 pub struct LayoutOffset(pub(crate) u64);
 
 // The number of a byte of the lent memory. C sees it inside an entry.
 #[repr(C)]
-#[derive(Drop)]
+#[derive(Clone, Copy)]
 pub struct MemoryOffset(pub(crate) u64);
 
 impl LayoutOffset {

@@ -1,5 +1,8 @@
 // Receive by packets: open, packet, finish, abandon. Data is stored in memory as it arrives, a field once its unit is
 // whole.
+
+#![tactic(auto)]
+
 mod end_calls;
 mod open_call;
 mod packet_call;
@@ -14,7 +17,7 @@ pub use packet_call::packet;
 pub use validate::{held_is_eight, session_valid};
 
 // A received transfer in progress: what open was given, and how far the transfer is.
-#[derive(Drop)]
+#[derive(Clone, Copy)]
 pub struct Session {
     pub key: Key,
     pub offset: LayoutOffset,
@@ -23,7 +26,7 @@ pub struct Session {
 }
 
 // What open returns: the key given, and the session, which only counts if the outcome is Done.
-#[derive(Drop)]
+#[derive(Clone, Copy)]
 pub struct OpenResult {
     pub outcome: Outcome,
     pub key: Key,
@@ -31,7 +34,7 @@ pub struct OpenResult {
 }
 
 // What packet returns: the totals since open, or zeros if it is refused, and the session.
-#[derive(Drop)]
+#[derive(Clone, Copy)]
 pub struct PacketResult {
     pub outcome: Outcome,
     pub taken: u64,
@@ -41,7 +44,7 @@ pub struct PacketResult {
 
 // What finish returns: the key, which only counts if the outcome is Done, and the session, which only counts if it is a
 // refusal.
-#[derive(Drop)]
+#[derive(Clone, Copy)]
 pub struct FinishResult {
     pub outcome: Outcome,
     pub key: Key,
@@ -49,7 +52,7 @@ pub struct FinishResult {
 }
 
 // What abandon returns. Its outcome is always Done.
-#[derive(Drop)]
+#[derive(Clone, Copy)]
 pub struct AbandonResult {
     pub outcome: Outcome,
     pub key: Key,

@@ -6,7 +6,7 @@ use crate::{buffers, lines, settings};
 use cstructs::{CKey, CSession};
 
 // The key and the session that the next call takes.
-#[derive(Drop)]
+#[derive(Clone, Copy)]
 struct State {
     key: CKey,
     session: CSession,

@@ -1,5 +1,8 @@
 // replay: makes the calls that its standard input lists, through the C API, and prints what each returns and digests of
 // memory and wire after it. tests/reference writes the list and the right answers; its README says what the lines mean.
+
+#![tactic(auto)]
+
 mod buffers;
 mod calls;
 mod lines;

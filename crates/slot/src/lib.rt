@@ -1,4 +1,7 @@
 // The error slot: the first error that transfers found, and the numbers that check returns for it (01, "Error slot").
+
+#![tactic(auto)]
+
 ghost use Rattle.std.specs.Prelude.{◌≡◌};
 ghost use Rattle.slot.specs.Slots as slots;
 
@@ -6,13 +9,13 @@ use field::{Mismatch, Tag};
 
 // A tag that is not what the rule computes, and where its block's data begins in the input stream. No stream has 2^32
 // bytes. With a 64-bit offset a slot has seven bytes of padding, and copying those stalls.
-#[derive(Drop)]
+#[derive(Clone, Copy)]
 pub struct Error {
     pub mismatch: Mismatch,
     pub offset: u32,
 }
 
-#[derive(Drop)]
+#[derive(Clone, Copy)]
 pub enum Slot {
     Empty,
     Holding(Error),
@@ -20,7 +23,7 @@ pub enum Slot {
 
 // An error slot as check returns it and as C sees it: all five numbers are 0 if the slot is empty.
 #[repr(C)]
-#[derive(Drop)]
+#[derive(Clone, Copy)]
 pub struct ErrorNumbers {
     pub error_type: u32,
     pub actual: u32,

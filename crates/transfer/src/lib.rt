@@ -1,4 +1,7 @@
 // Transfers in one call: send moves memory to the wire, receive moves the wire to memory.
+
+#![tactic(auto)]
+
 mod receive_call;
 mod rules;
 mod send_call;
@@ -12,7 +15,7 @@ pub use send_call::send;
 
 // What a transfer returns: its outcome, the input bytes taken and the output bytes written, fields included, and the
 // key. A refused transfer returns two zeros and the key as it was.
-#[derive(Drop)]
+#[derive(Clone, Copy)]
 pub struct TransferResult {
     pub outcome: Outcome,
     pub taken: u64,

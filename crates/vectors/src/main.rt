@@ -1,5 +1,8 @@
 // Runs SBC-3's and RFC 1071's vectors and the scope paper's cases E, F, G, J, K and L through guard and layout. The
 // file `stdout` holds what the papers give; it was computed without this code.
+
+#![tactic(auto)]
+
 mod guards;
 mod layouts;
 mod lines;

@@ -1,5 +1,8 @@
 // What difcheck does (01, "The small program"): it checks the fields of a wire, received in packets of at most 4,168
 // bytes.
+
+#![tactic(auto)]
+
 mod check;
 mod setup;
 
@@ -7,7 +10,7 @@ pub use check::check_wire;
 use slot::ErrorNumbers;
 
 // The number of a refusal, or the numbers that check returns.
-#[derive(Drop)]
+#[derive(Clone, Copy)]
 pub enum Answer {
     Refused(u32),
     Found(ErrorNumbers),
