@@ -12,7 +12,7 @@ use Rattle.field.specs.Domains.{signed, escapes_by_application, escapes_by_both}
 use Rattle.field.specs.Judging.{escaped}
 use Rattle.layout.specs.declared.layout_rules.Verdict.{Verdict}
 use Rattle.layout.specs.declared.layout_rules.Verdict.TheVariants.{Sound, Malformed, Outside, Overlapping}
-use Rattle.layout.specs.Pieces.{size, total}
+use Rattle.layout.specs.Pieces.{total}
 use Rattle.layout.specs.Answers.{verdict_on, fits}
 use Rattle.layout.proofs.AnswerLaws.{or_false, fits_told}
 use Rattle.layout.proofs.CountLaws.{sound_fits}
