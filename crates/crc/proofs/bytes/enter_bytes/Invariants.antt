@@ -1,3 +1,4 @@
+-- The loop keeps the invariant that entering the bytes left leads to the result.
 use mathlib.Core.Path.{◌≡◌}
 use Prim.Native.Nat.{◌≤◌, ◌-◌}
 use lib.ListN.{length, drop}
