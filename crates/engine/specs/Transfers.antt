@@ -12,7 +12,7 @@
 --   error_by r i guard found          the error of input block i, given its guard and its field
 --   error_of r stream i               the error of input block i of the stream
 --   first_error r stream n            the first error of the first n blocks
-use Rattle.std.specs.Prelude.{List, [], ◌++◌, cond, ℕ, zero, suc, ◌+◌, ◌*◌, take, drop}
+use Rattle.std.specs.Prelude.{List, [], ◌++◌, cond, ℕ, zero, suc, ◌*◌, take, drop}
 use Rattle.guard.specs.Guards.{guard_of}
 use Rattle.field.specs.declared.Domain.{Domain}
 use Rattle.field.specs.declared.Judgement.{Judgement}
