@@ -5,59 +5,61 @@
 
 mod reading;
 
-use libc::STDOUT_FILENO;
 use reading::Input;
+use std::io;
+use std::io::Read;
 use wirecheck::Answer;
 
 const BUFFER_SIZE: usize = 65536;
 
 // Prints a space and a number.
-fn print_spaced(n: u64) {
-    io::write_all(STDOUT_FILENO, b" ");
-    io::print_decimal(STDOUT_FILENO, n);
+fn print_spaced(rt: &impl Print, n: u64) -> io::Result<()> {
+    print!(rt; " {n}")
 }
 
 // Prints the answer and a line end.
-fn print(answer: Answer) {
+fn print(rt: &impl Print, answer: Answer) -> io::Result<()> {
     match answer {
         Answer::Refused(n) => {
-            io::write_all(STDOUT_FILENO, b"refused");
-            print_spaced(n as u64);
+            print!(rt; "refused")?;
+            print_spaced(rt, n as u64)?;
         }
         Answer::Found(f) => {
-            io::print_decimal(STDOUT_FILENO, f.error_type as u64);
-            print_spaced(f.actual as u64);
-            print_spaced(f.expected as u64);
-            print_spaced(f.offset as u64);
-            print_spaced(f.differing as u64);
+            print!(rt; "{}", f.error_type)?;
+            print_spaced(rt, f.actual as u64)?;
+            print_spaced(rt, f.expected as u64)?;
+            print_spaced(rt, f.offset as u64)?;
+            print_spaced(rt, f.differing as u64)?;
         }
     }
-    io::write_all(STDOUT_FILENO, b"\n");
+    println!(rt; "")
 }
 
-fn print_unreadable() {
-    io::write_all(STDOUT_FILENO, b"standard input can't be read\n");
+fn print_unreadable(rt: &impl Print) -> io::Result<()> {
+    println!(rt; "standard input can't be read")
 }
 
 // Tries to read one more byte if the first n bytes filled the buffer. If they did not, the input has ended.
-fn read_one_more(n: usize) -> Input {
+fn read_one_more(from: &mut impl Read, n: usize) -> Input {
     if n < BUFFER_SIZE {
         return Input::Bytes(0);
     }
     let mut next = [0u8; 1];
-    reading::read_all(&mut next)
+    reading::read_all(from, &mut next)
 }
 
-fn main() {
+fn main(rt: HostRuntime) -> io::Result<()> {
+    let mut stdin = rt.stdin();
     let mut buffer = [0u8; BUFFER_SIZE];
-    let input = reading::read_all(&mut buffer);
+    let input = reading::read_all(&mut stdin, &mut buffer);
     let Input::Bytes(n) = input else {
-        return print_unreadable();
+        return print_unreadable(&rt);
     };
-    let after = read_one_more(n);
+    let after = read_one_more(&mut stdin, n);
     let Input::Bytes(more) = after else {
-        return print_unreadable();
+        return print_unreadable(&rt);
     };
     let mut memory = [0u8; 32768];
-    print(wirecheck::check_wire(&buffer[0..n], 0 < more, &mut memory));
+    let answer = wirecheck::check_wire(&buffer[0..n], 0 < more, &mut memory);
+    print(&rt, answer)
 }
