@@ -1,7 +1,7 @@
 // Reads the lines of a case file, each a letter and hexadecimal numbers, and prints texts and numbers.
 ghost use Rattle.std.specs.Prelude.{◌≡◌, ◌+◌, ◌<◌, ◌≤◌, min, length};
 
-use libc::STDOUT_FILENO;
+use std::io;
 
 // 16 digits make 64 bits. A number below this one has room for a further digit.
 const DIGIT_ROOM: u64 = 0x1000_0000_0000_0000;
@@ -11,14 +11,13 @@ const DIGEST_FACTOR: u64 = 257;
 // The largest prime number below 2^32.
 const DIGEST_MODULUS: u64 = 4294967291;
 
-pub(crate) fn print_text(text: &[u8]) {
-    io::write_all(STDOUT_FILENO, text);
+pub(crate) fn print_text(rt: &impl Print, text: &[u8]) -> io::Result<()> {
+    rt.write_all(text)
 }
 
 // Prints a number in decimal, with a space before it.
-pub(crate) fn print_number(n: u64) {
-    print_text(b" ");
-    io::print_decimal(STDOUT_FILENO, n);
+pub(crate) fn print_number(rt: &impl Print, n: u64) -> io::Result<()> {
+    print!(rt; " {n}")
 }
 
 fn wide(byte: u8) -> u64
