@@ -1,6 +1,6 @@
 -- A sound layout may be walked, and its bytes may be moved.
 use mathlib.Core.Path.{◌≡◌, sym, ◌∙◌}
-use Prim.Native.Nat.{ℕ, ◌*◌, ◌-◌, ◌≤◌}
+use Prim.Native.Nat.{ℕ, ◌*◌, ◌≤◌}
 use Rattle.layout.specs.declared.Layout.{Layout}
 use Rattle.layout.specs.declared.layout_rules.Verdict.{Verdict}
 use Rattle.layout.specs.declared.layout_rules.Verdict.TheVariants.{Sound}

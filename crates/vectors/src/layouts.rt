@@ -3,6 +3,7 @@ ghost use Rattle.vectors.specs.Needed.{Located};
 
 use crate::{J_MEMORY, lines};
 use layout::{ENTRIES_MAX, Entry, Layout, LayoutOffset, MemoryOffset, Verdict};
+use std::io;
 
 // Where the second entry of J's layout starts, and where that of L's does.
 const J_SECOND_START: u64 = 1028;
@@ -60,80 +61,84 @@ fn answer_number(l: Layout, memory_length: u64) -> u64 {
     }
 }
 
-fn print_answer(label: &[u8], l: Layout, memory_length: u64) {
-    lines::print_text(label);
-    lines::print_text(b", memory ");
-    lines::print_decimal(memory_length);
-    lines::print_decimal_line(b": answer ", answer_number(l, memory_length));
+fn print_answer(rt: &impl Print, label: &[u8], l: Layout, memory_length: u64) -> io::Result<()> {
+    lines::print_text(rt, label)?;
+    lines::print_text(rt, b", memory ")?;
+    lines::print_decimal(rt, memory_length)?;
+    lines::print_decimal_line(rt, b": answer ", answer_number(l, memory_length))
 }
 
-pub(crate) fn print_answers() {
-    print_answer(b"J", make_j(), J_MEMORY);
-    print_answer(b"K", make_j(), J_MEMORY - 1);
-    print_answer(b"L", make_like_j(L_SECOND_START), J_MEMORY);
+pub(crate) fn print_answers(rt: &impl Print) -> io::Result<()> {
+    print_answer(rt, b"J", make_j(), J_MEMORY)?;
+    print_answer(rt, b"K", make_j(), J_MEMORY - 1)?;
+    print_answer(rt, b"L", make_like_j(L_SECOND_START), J_MEMORY)
 }
 
-pub(crate) fn print_malformed() {
-    print_answer(b"used 0", make_alternating(0, 1), J_MEMORY);
-    print_answer(b"used 17", make_alternating(17, 1), J_MEMORY);
-    print_answer(b"repeat 0", make_alternating(2, 0), J_MEMORY);
-    print_answer(b"a count 0", make_single(0, 0), J_MEMORY);
-    print_answer(b"2 entries x 513 repeats", make_alternating(2, 513), 8);
-    print_answer(b"2 entries x 512 repeats", make_alternating(2, 512), 8);
+pub(crate) fn print_malformed(rt: &impl Print) -> io::Result<()> {
+    print_answer(rt, b"used 0", make_alternating(0, 1), J_MEMORY)?;
+    print_answer(rt, b"used 17", make_alternating(17, 1), J_MEMORY)?;
+    print_answer(rt, b"repeat 0", make_alternating(2, 0), J_MEMORY)?;
+    print_answer(rt, b"a count 0", make_single(0, 0), J_MEMORY)?;
+    print_answer(rt, b"2 entries x 513 repeats", make_alternating(2, 513), 8)?;
+    print_answer(rt, b"2 entries x 512 repeats", make_alternating(2, 512), 8)
 }
 
 // Prints the answers for pieces at the end of 64 bits, and for two that touch.
-pub(crate) fn print_edges() {
+pub(crate) fn print_edges(rt: &impl Print) -> io::Result<()> {
     print_answer(
+        rt,
         b"start 2^64 - 1, count 1",
         make_single(LAST_OFFSET, 1),
         J_MEMORY,
-    );
+    )?;
     print_answer(
+        rt,
         b"start 2^64 - 1, count 1",
         make_single(LAST_OFFSET, 1),
         LAST_OFFSET,
-    );
+    )?;
     print_answer(
+        rt,
         b"touching pieces (0, 8, 0), (8, 8, 0)",
         make_layout(make_entry(0, 8, 0), make_entry(8, 8, 0), 2, 1),
         16,
-    );
+    )
 }
 
 // Prints where layout byte x lies, or nothing if the layout has no byte x.
-fn print_spot(l: Layout, total: u64, x: u64)
+fn print_spot(rt: &impl Print, l: Layout, total: u64, x: u64) -> io::Result<()>
     requires { Located l total }
 {
     if x < total {
         let c = layout::walk(l, LayoutOffset::new(x));
-        lines::print_text(b"J, layout byte ");
-        lines::print_decimal(x);
-        lines::print_text(b": memory byte ");
-        lines::print_decimal(c.place.number());
-        lines::print_decimal_line(b", bytes left ", c.left);
+        lines::print_text(rt, b"J, layout byte ")?;
+        lines::print_decimal(rt, x)?;
+        lines::print_text(rt, b": memory byte ")?;
+        lines::print_decimal(rt, c.place.number())?;
+        lines::print_decimal_line(rt, b", bytes left ", c.left)?;
     }
+    Ok(())
 }
 
 // Prints where the first and the last byte of some of J's pieces lie.
-fn print_each_spot(l: Layout, total: u64)
+fn print_each_spot(rt: &impl Print, l: Layout, total: u64) -> io::Result<()>
     requires { Located l total }
 {
-    print_spot(l, total, 0);
-    print_spot(l, total, 511);
-    print_spot(l, total, 512);
-    print_spot(l, total, 519);
-    print_spot(l, total, 520);
-    print_spot(l, total, 1039);
+    print_spot(rt, l, total, 0)?;
+    print_spot(rt, l, total, 511)?;
+    print_spot(rt, l, total, 512)?;
+    print_spot(rt, l, total, 519)?;
+    print_spot(rt, l, total, 520)?;
+    print_spot(rt, l, total, 1039)
 }
 
-pub(crate) fn print_spots() {
+pub(crate) fn print_spots(rt: &impl Print) -> io::Result<()> {
     let l = make_j();
     let v = layout::judge(l, J_MEMORY);
     let Verdict::Sound = v else {
-        return;
+        return Ok(());
     };
     let total = layout::total(l);
-    lines::print_decimal_line(b"J: total ", total);
-    print_each_spot(l, total);
+    lines::print_decimal_line(rt, b"J: total ", total)?;
+    print_each_spot(rt, l, total)
 }

@@ -1,29 +1,27 @@
 // Prints texts and numbers.
-use libc::STDOUT_FILENO;
+use std::io;
 
-// How many hexadecimal digits the papers write a guard with.
-const GUARD_DIGITS: usize = 4;
-
-pub(crate) fn print_text(text: &[u8]) {
-    io::write_all(STDOUT_FILENO, text);
+pub(crate) fn print_text(rt: &impl Print, text: &[u8]) -> io::Result<()> {
+    rt.write_all(text)
 }
 
-pub(crate) fn print_decimal(n: u64) {
-    io::print_decimal(STDOUT_FILENO, n);
+pub(crate) fn print_decimal(rt: &impl Print, n: u64) -> io::Result<()> {
+    print!(rt; "{n}")
 }
 
-pub(crate) fn print_guard(guard: u16) {
-    io::print_hex(STDOUT_FILENO, guard as u64, GUARD_DIGITS);
+// Prints a guard with the four hexadecimal digits that the papers write it with.
+pub(crate) fn print_guard(rt: &impl Print, guard: u16) -> io::Result<()> {
+    print!(rt; "{guard:04x}")
 }
 
-pub(crate) fn print_decimal_line(label: &[u8], n: u64) {
-    print_text(label);
-    print_decimal(n);
-    print_text(b"\n");
+pub(crate) fn print_decimal_line(rt: &impl Print, label: &[u8], n: u64) -> io::Result<()> {
+    print_text(rt, label)?;
+    print_decimal(rt, n)?;
+    print_text(rt, b"\n")
 }
 
-pub(crate) fn print_guard_line(label: &[u8], guard: u16) {
-    print_text(label);
-    print_guard(guard);
-    print_text(b"\n");
+pub(crate) fn print_guard_line(rt: &impl Print, label: &[u8], guard: u16) -> io::Result<()> {
+    print_text(rt, label)?;
+    print_guard(rt, guard)?;
+    print_text(rt, b"\n")
 }

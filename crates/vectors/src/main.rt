@@ -8,16 +8,18 @@ mod layouts;
 mod lines;
 mod moves;
 
+use std::io;
+
 // The length of the memory of case J.
 const J_MEMORY: u64 = 1044;
 
-fn main() {
-    guards::print_crc();
-    guards::print_checksum();
-    guards::print_seeds();
-    layouts::print_answers();
-    layouts::print_malformed();
-    layouts::print_edges();
-    layouts::print_spots();
-    moves::print_moves();
+fn main(rt: HostRuntime) -> io::Result<()> {
+    guards::print_crc(&rt)?;
+    guards::print_checksum(&rt)?;
+    guards::print_seeds(&rt)?;
+    layouts::print_answers(&rt)?;
+    layouts::print_malformed(&rt)?;
+    layouts::print_edges(&rt)?;
+    layouts::print_spots(&rt)?;
+    moves::print_moves(&rt)
 }

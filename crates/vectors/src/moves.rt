@@ -4,6 +4,7 @@ ghost use Rattle.vectors.specs.Needed.{Moved};
 
 use crate::{J_MEMORY, layouts, lines};
 use layout::{Layout, LayoutOffset, Verdict};
+use std::io;
 
 // The total of J's layout.
 const J_TOTAL: usize = 1040;
@@ -44,14 +45,14 @@ fn count_same(a: &[u8], b: &[u8]) -> usize
     n
 }
 
-fn print_same(label: &[u8], a: &[u8], b: &[u8], end: &[u8])
+fn print_same(rt: &impl Print, label: &[u8], a: &[u8], b: &[u8], end: &[u8]) -> io::Result<()>
     requires { length a.now ≡ length b.now }
 {
-    lines::print_text(label);
-    lines::print_decimal(count_same(a, b) as u64);
-    lines::print_text(b" of ");
-    lines::print_decimal(a.len() as u64);
-    lines::print_text(end);
+    lines::print_text(rt, label)?;
+    lines::print_decimal(rt, count_same(a, b) as u64)?;
+    lines::print_text(rt, b" of ")?;
+    lines::print_decimal(rt, a.len() as u64)?;
+    lines::print_text(rt, end)
 }
 
 // Returns the memory byte that is layout byte x.
@@ -105,38 +106,40 @@ fn wide(byte: u8) -> u64 {
     byte as u64
 }
 
-fn print_gathered(bytes: &Bytes) {
-    lines::print_text(b"J, gathered: layout byte 512 is ");
-    lines::print_decimal(wide(bytes[512]));
-    lines::print_decimal_line(b", 520 is ", wide(bytes[520]));
+fn print_gathered(rt: &impl Print, bytes: &Bytes) -> io::Result<()> {
+    lines::print_text(rt, b"J, gathered: layout byte 512 is ")?;
+    lines::print_decimal(rt, wide(bytes[512]))?;
+    lines::print_decimal_line(rt, b", 520 is ", wide(bytes[520]))
 }
 
-fn print_scattered(from: &Memory, to: &Memory) {
+fn print_scattered(rt: &impl Print, from: &Memory, to: &Memory) -> io::Result<()> {
     print_same(
+        rt,
         b"J, scattered over zeros: ",
         from,
         to,
         b" memory bytes are the same\n",
-    );
+    )
 }
 
-fn print_gathered_again(bytes: &Bytes, again: &Bytes) {
+fn print_gathered_again(rt: &impl Print, bytes: &Bytes, again: &Bytes) -> io::Result<()> {
     print_same(
+        rt,
         b"J, gathered again: ",
         bytes,
         again,
         b" layout bytes are the same\n",
-    );
+    )
 }
 
-pub(crate) fn print_moves() {
+pub(crate) fn print_moves(rt: &impl Print) -> io::Result<()> {
     let mut from = zero_memory();
     let mut to = zero_memory();
     let mut bytes = zero_bytes();
     let mut again = zero_bytes();
     fill_pattern(&mut from);
     move_and_gather_again(layouts::make_j(), &from, &mut to, &mut bytes, &mut again);
-    print_gathered(&bytes);
-    print_scattered(&from, &to);
-    print_gathered_again(&bytes, &again);
+    print_gathered(rt, &bytes)?;
+    print_scattered(rt, &from, &to)?;
+    print_gathered_again(rt, &bytes, &again)
 }
