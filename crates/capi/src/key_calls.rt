@@ -16,15 +16,13 @@ pub(crate) fn wide(n: u32) -> u64
     n as u64
 }
 
-#[unsafe(no_mangle)]
-pub extern "C" fn garoalva_fresh() -> CKey
+pub fn garoalva_fresh() -> CKey
     ensures { result ≡ key_to_c fresh_key }
 {
     key_to_c(key::fresh())
 }
 
-#[unsafe(no_mangle)]
-pub extern "C" fn garoalva_configure(
+pub fn garoalva_configure(
     key: CKey,
     memory: &[u8],
     configuration: CConfiguration,
@@ -77,8 +75,7 @@ fn not_a_key_result(key: CKey) -> CTransferResult
     }
 }
 
-#[unsafe(no_mangle)]
-pub extern "C" fn garoalva_send(
+pub fn garoalva_send(
     key: CKey,
     memory: &[u8],
     wire: &mut [u8],
@@ -98,8 +95,7 @@ pub extern "C" fn garoalva_send(
     not_a_key_result(key)
 }
 
-#[unsafe(no_mangle)]
-pub extern "C" fn garoalva_receive(
+pub fn garoalva_receive(
     key: CKey,
     memory: &mut [u8],
     wire: &[u8],
@@ -119,8 +115,7 @@ pub extern "C" fn garoalva_receive(
     not_a_key_result(key)
 }
 
-#[unsafe(no_mangle)]
-pub extern "C" fn garoalva_check(key: CKey) -> CCheckResult
+pub fn garoalva_check(key: CKey) -> CCheckResult
     ensures { result ≡ calls.c_check key }
 {
     if c_key_valid(key) {

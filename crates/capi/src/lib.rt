@@ -1,6 +1,6 @@
 // The C API (include/garoalva.h): 01's calls on plain structs. A struct that came from these calls gets what the call
 // of the crates below returns, one that only looks so is used as it is, and any other is refused with a number of our
-// own.
+// own. The crate capi_c exports the calls under their C symbols.
 
 #![tactic(auto)]
 

@@ -57,13 +57,7 @@ fn key_finished(f: FinishResult) -> CKey
     }
 }
 
-#[unsafe(no_mangle)]
-pub extern "C" fn garoalva_open(
-    key: CKey,
-    memory: &[u8],
-    offset: u64,
-    data_length: u64,
-) -> COpenResult
+pub fn garoalva_open(key: CKey, memory: &[u8], offset: u64, data_length: u64) -> COpenResult
     ensures { result ≡ calls.c_open key (length memory.now) offset data_length }
 {
     if c_key_valid(key) {
@@ -87,12 +81,7 @@ pub extern "C" fn garoalva_open(
     }
 }
 
-#[unsafe(no_mangle)]
-pub extern "C" fn garoalva_packet(
-    session: CSession,
-    memory: &mut [u8],
-    bytes: &[u8],
-) -> CPacketResult
+pub fn garoalva_packet(session: CSession, memory: &mut [u8], bytes: &[u8]) -> CPacketResult
     ensures value { result ≡ calls.c_packet session (length memory.old) bytes.now }
     ensures memory_after { memory.new ≡ calls.memory_after_c_packet session memory.old bytes.now }
 {
@@ -121,8 +110,7 @@ pub extern "C" fn garoalva_packet(
     refused
 }
 
-#[unsafe(no_mangle)]
-pub extern "C" fn garoalva_finish(session: CSession) -> CFinishResult
+pub fn garoalva_finish(session: CSession) -> CFinishResult
     ensures { result ≡ calls.c_finish session }
 {
     if c_session_valid(session) {
@@ -141,8 +129,7 @@ pub extern "C" fn garoalva_finish(session: CSession) -> CFinishResult
     }
 }
 
-#[unsafe(no_mangle)]
-pub extern "C" fn garoalva_abandon(session: CSession) -> CAbandonResult
+pub fn garoalva_abandon(session: CSession) -> CAbandonResult
     ensures { result ≡ calls.c_abandon session }
 {
     if c_session_valid(session) {
