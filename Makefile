@@ -1,4 +1,5 @@
-# make            builds build/libgaroalva.a and build/libgaroalva.so; it proves the crate capi, so rt must be on the path
+# make            builds build/libgaroalva.a and build/libgaroalva.so; it proves the crate capi_c, for which rt must be
+#                 on the path
 # make test       tests the header, both libraries as installed, the C API, that a library with other structs does not
 #                 link, the guard of a block by itself, the Rust crate, the model, and the library against the model
 # make bench      runs bench/run; QUICK=--quick for a short run
@@ -28,7 +29,7 @@ WITH_SHARED := $$($(PKG_CONFIG) --cflags --libs garoalva)
 WITH_STATIC := $$($(PKG_CONFIG) --cflags garoalva) $$($(PKG_CONFIG) --variable=archive garoalva)
 WITH_ISAL := $$(pkg-config --exists libisal && echo -DHAVE_ISAL $$(pkg-config --cflags --libs libisal))
 
-PROVED := $(wildcard crates.txt) $(shell test -d crates && find crates -name '*.rt' -o -name '*.antt')
+PROVED := $(wildcard crates.txt) $(shell test -d crates && find crates -name out -prune -o \( -name '*.rt' -o -name '*.antt' \) -print)
 
 .PHONY: all test test-header test-c test-versions test-guard test-rust test-reference bench install clean
 .DELETE_ON_ERROR:
@@ -38,17 +39,17 @@ all: build/libgaroalva.a build/libgaroalva.so
 build:
 	mkdir -p $@
 
-# The proved part of the library: the nine calls.
+# The proved part of the library: the nine calls under their C symbols.
 build/libcapi.a: $(PROVED) | build
-	@echo 'proving the crate capi and what it rests on: some minutes the first time'
-	rt staticlib capi > build/prove.log || { cat build/prove.log; exit 1; }
-	cp target/staticlib/libcapi.a $@
+	@echo 'proving the crate capi_c and what it rests on: some minutes the first time'
+	(cd crates/capi_c && rt lib) > build/prove.log || { cat build/prove.log; exit 1; }
+	cp crates/capi_c/out/libcapi_c.a $@
 
 # The guard of a block by itself, for test-guard and the benchmark. It is not part of the library. It waits for libcapi.a
-# because two rt at once would write the same files in target/.
+# because both rest on the crate guard, which is then proved once.
 build/libblockguard.a: $(PROVED) | build/libcapi.a
-	rt staticlib blockguard > build/prove-guard.log || { cat build/prove-guard.log; exit 1; }
-	cp target/staticlib/libblockguard.a $@
+	(cd crates/blockguard && rt lib) > build/prove-guard.log || { cat build/prove-guard.log; exit 1; }
+	cp crates/blockguard/out/libblockguard.a $@
 
 # The part in plain C: texts and version.
 build/text.o: c/text.c include/garoalva.h Makefile | build
