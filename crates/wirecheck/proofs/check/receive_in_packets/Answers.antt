@@ -1,13 +1,11 @@
 -- The loop invariant is `Along`: session and memory are those after the bytes that came; each turn makes the rest
 -- shorter.
-use Rattle.wirecheck.specs.Inner.Receiving.{Receivable}
 use mathlib.Core.Path.{◌≡◌, refl, ap, ◌∙◌}
-use Prim.Native.Nat.{ℕ, ◌-◌, ◌/◌}
+use Prim.Native.Nat.{ℕ, ◌/◌}
 use native.Mathlib.Nat.{sub-zero}
 use native.Mathlib.Omega.{arith}
-use borrow.Author.Rules.{rules}
 use borrow.Author.Rules.{part_to_end}
-use lib.ListN.{length, length-drop}
+use lib.ListN.{length}
 use Rattle.guard.specs.Guards.{Bytes}
 use Rattle.layout.specs.declared.offset.LayoutOffset.{LayoutOffset}
 use Rattle.transfer.specs.Transferring.{memory_after_receive}
@@ -16,7 +14,6 @@ use Rattle.packets.specs.declared.PacketResult.{PacketResult}
 use Rattle.packets.specs.declared.FinishResult.{FinishResult}
 use Rattle.key.specs.declared.Key.{Key}
 use Rattle.wirecheck.specs.Checking.{received}
-use Rattle.wirecheck.specs.Inner.Receiving.{Along}
 use Rattle.wirecheck.proofs.Laws.{key_valid_lem, opened_along, along_session, along_next, along_end, along_memory}
 use Rattle.wirecheck.proofs.check.receive_in_packets.Goals as goal
 
@@ -26,12 +23,12 @@ open-opened-requires c = key_valid_lem _ _ _ c.requires
 pub loop-rest-init : goal.loop-rest-init
 loop-rest-init c =
     let z : ◌≡◌ {A = LayoutOffset} c.new.result (record { 0 = 0 }) = ap (λ (n : ℕ). record { 0 = n }) c.new.ensures in
-    let a = opened_along _ c.args.memory.now c.args.wire.now c.requires (λ i. (c.shared-slice-known.given i).fits) _ (rw z at (goal.at.loop-rest-init c).After-open-opened.«open».ensures) in
+    let a = opened_along _ c.args.memory.now c.args.wire.now c.requires (λ i. (c.type_inv.wire i).fits) _ (rw z at c.open-opened.ensures) in
     (a.0, a.1, refl)
 
 pub packet-result-requires : goal.packet-result-requires
 packet-result-requires c =
-    along_session _ c.args.memory.now c.args.wire.now c.loop-rest.invariant.0 (λ i. (c.shared-slice-known.given i).fits) _ _ _ c.loop-rest.invariant.1
+    along_session _ c.args.memory.now c.args.wire.now c.loop-rest.invariant.0 (λ i. (c.type_inv.wire i).fits) _ _ _ c.loop-rest.invariant.1
 
 pub loop-rest-preserved : goal.loop-rest-preserved
 loop-rest-preserved c =
@@ -39,41 +36,21 @@ loop-rest-preserved c =
     let p = c.packet-result in
     rw (part_to_end c.loop-rest.rest.now n.result) (
       c.loop-rest.invariant.0,
-      along_next _ c.args.memory.now c.args.wire.now c.loop-rest.invariant.0 (λ i. (c.shared-slice-known.given i).fits) _ _ _ c.loop-rest.invariant.1
-          n.result c.loop-rest.invariant.2 _ (ap (λ (q : PacketResult). q.session) (rw (sub-zero n.result) at p.ensures.0)) _ (rw (sub-zero n.result) at p.ensures.1),
-      p.auto.1.0 ∙ c.loop-rest.invariant.2,
+      along_next _ c.args.memory.now c.args.wire.now c.loop-rest.invariant.0 (λ i. (c.type_inv.wire i).fits) _ _ _ c.loop-rest.invariant.1
+          n.result c.loop-rest.invariant.2 _ (ap (λ (q : PacketResult). q.session) (rw (sub-zero n.result) at p.ensures.value)) _ (rw (sub-zero n.result) at p.ensures.memory_after),
+      p.auto.memory ∙ c.loop-rest.invariant.2,
     )
 
 pub finish-finished-requires : goal.finish-finished-requires
 finish-finished-requires c =
-    along_session _ c.args.memory.now c.args.wire.now c.loop-rest.invariant.0 (λ i. (c.shared-slice-known.given i).fits) _ _ _ c.loop-rest.invariant.1
+    along_session _ c.args.memory.now c.args.wire.now c.loop-rest.invariant.0 (λ i. (c.type_inv.wire i).fits) _ _ _ c.loop-rest.invariant.1
 
 pub returns : goal.returns
 returns c =
-    let k = ap (λ (o : OpenResult). o.session.key) (goal.at.returns c).After-open-opened.«open».ensures in
-    let b : Bytes c.args.wire.now = λ i. (c.shared-slice-known.given i).fits in
+    let k = ap (λ (o : OpenResult). o.session.key) c.open-opened.ensures in
+    let b : Bytes c.args.wire.now = λ i. (c.type_inv.wire i).fits in
     let z : length c.loop-rest.rest.now ≡ 0 = omega (arith, c.loop-rest-test.false) in record {
       value = ap (λ (f : FinishResult). f.key) c.finish-finished.ensures
           ∙ (along_end _ c.args.memory.now c.args.wire.now c.loop-rest.invariant.0 b _ _ _ c.loop-rest.invariant.1 z ∙ ap (λ (x : Key). received x c.args.memory.now c.args.wire.now) k);
       memory_after = along_memory _ c.args.memory.now c.args.wire.now c.loop-rest.invariant.0 b _ _ _ c.loop-rest.invariant.1 z ∙ ap (λ (x : Key). memory_after_receive x c.args.memory.now c.args.wire.now 0 (length c.args.wire.now / 2)) k;
     }
-
--- UNMATCHED ??slice_bounds_packet_start
--- | part-packet-start : tie.Need-slice-bounds-packet-start invariant-loop decreases-loop
--- | part-packet-start c = search rules
-
--- UNMATCHED ??slice_bounds_packet_end
--- | part-packet-end : tie.Need-slice-bounds-packet-end invariant-loop decreases-loop
--- | part-packet-end c = omega (arith, c.before.min.ensures)
-
--- UNMATCHED ??slice_bounds_rest_start
--- | part-rest-start : tie.Need-slice-bounds-rest-start invariant-loop decreases-loop
--- | part-rest-start c = omega (arith, c.before.before.before.before.before.before.min.ensures)
-
--- UNMATCHED ??slice_bounds_rest_end
--- | part-rest-end : tie.Need-slice-bounds-rest-end invariant-loop decreases-loop
--- | part-rest-end c = search rules
-
--- UNMATCHED ??same_length
--- | same_length : tie.Need-same-length invariant-loop decreases-loop
--- | same_length c = c.before.before.before.loop.invariant.2

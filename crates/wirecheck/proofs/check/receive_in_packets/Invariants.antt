@@ -1,21 +1,7 @@
 use Rattle.wirecheck.specs.Inner.Receiving.{Receivable}
-use mathlib.Core.Path.{◌≡◌, refl, ap, ◌∙◌}
-use Prim.Native.Nat.{ℕ, ◌-◌, ◌/◌}
-use native.Mathlib.Nat.{sub-zero}
-use native.Mathlib.Omega.{arith}
-use borrow.Author.Rules.{rules}
-use borrow.Author.Rules.{part_to_end}
-use lib.ListN.{length, length-drop}
-use Rattle.guard.specs.Guards.{Bytes}
-use Rattle.layout.specs.declared.offset.LayoutOffset.{LayoutOffset}
-use Rattle.transfer.specs.Transferring.{memory_after_receive}
-use Rattle.packets.specs.declared.OpenResult.{OpenResult}
-use Rattle.packets.specs.declared.PacketResult.{PacketResult}
-use Rattle.packets.specs.declared.FinishResult.{FinishResult}
-use Rattle.key.specs.declared.Key.{Key}
-use Rattle.wirecheck.specs.Checking.{received}
+use mathlib.Core.Path.{◌≡◌}
+use lib.ListN.{length}
 use Rattle.wirecheck.specs.Inner.Receiving.{Along}
-use Rattle.wirecheck.proofs.Laws.{key_valid_lem, opened_along, along_session, along_next, along_end, along_memory}
 use Rattle.wirecheck.proofs.check.receive_in_packets.Given as goal
 
 abbrev pub invariant-loop-rest : goal.invariant-loop-rest
