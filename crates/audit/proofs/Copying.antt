@@ -35,7 +35,7 @@ use Rattle.transfer.proofs.SendLaws.{bytes_gathered}
 use Rattle.audit.specs.Copying.{field_byte, SendCopies, ReceiveCopies, SendKeepsGuard, ReceiveKeepsGuard}
 use Rattle.audit.proofs.Ranges.{two_below}
 use Rattle.audit.proofs.FieldBytes.{split_joined, found_bytes}
-use Rattle.audit.proofs.Destination.{output_units, block_size, unit_size, told, memory_length, wire-length, send_fills, receive_fills}
+use Rattle.audit.proofs.Destination.{output_units, block_size_lem, unit_size_lem, told, memory_length, wire-length, send_fills, receive_fills}
 
 -- ---- bytes of a field
 
@@ -78,8 +78,8 @@ module _ (r : Rule) (data_length : ℕ) (g : Agree r.input r.output data_length)
       let n = data_length / in_block r in
       let units = joined ◌++◌ [] (unit_out r stream) 0 n in
       let at : j * out_unit r + out_block r + k ≡ j * out_unit r + (out_block r + k) = omega arith in
-      let size : out_block r ≡ length (input_block r stream j) = sym (block_size r data_length g stream l j h) in
-      let unit : take (out_unit r) (drop (j * out_unit r) units) ≡ unit_out r stream j = joined_block (unit_out r stream) (out_unit r) 0 n (unit_size r data_length g stream l) j h ∙ rw (zero-add j) in
+      let size : out_block r ≡ length (input_block r stream j) = sym (block_size_lem r data_length g stream l j h) in
+      let unit : take (out_unit r) (drop (j * out_unit r) units) ≡ unit_out r stream j = joined_block (unit_out r stream) (out_unit r) 0 n (unit_size_lem r data_length g stream l) j h ∙ rw (zero-add j) in
       rw (output_units r data_length g stream l, at)
       (sym (get_or-drop (j * out_unit r) units (out_block r + k) 0) ∙ sym (get_or-take (out_unit r) (drop (j * out_unit r) units) (out_block r + k) 0 (omega (arith, eight')))
       ∙ ap (λ (l : List ℕ). get_or l (out_block r + k) 0) unit ∙ ap (λ (m : ℕ). get_or (unit_out r stream j) (m + k) 0) size

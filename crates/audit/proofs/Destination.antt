@@ -63,19 +63,19 @@ module _ (r : Rule) (data_length : ℕ) (g : Agree r.input r.output data_length)
   output_units = ap (λ (m : ℕ). output_stream r stream (data_length / in_block r) (data_length / m)) same ∙ by_units r stream (data_length / in_block r) same all_units
 
   -- Every input block has the output's block size.
-  pub block_size : (i : ℕ) → i < data_length / in_block r → length (input_block r stream i) ≡ out_block r
-  block_size i h = block_length r stream (data_length / in_block r) same all_units i h ∙ sym same
+  pub block_size_lem : (i : ℕ) → i < data_length / in_block r → length (input_block r stream i) ≡ out_block r
+  block_size_lem i h = block_length r stream (data_length / in_block r) same all_units i h ∙ sym same
 
   -- Every output unit has the output's unit size.
-  pub unit_size : (i : ℕ) → i < 0 + data_length / in_block r → length (unit_out r stream i) ≡ out_unit r
-  unit_size i h =
+  pub unit_size_lem : (i : ℕ) → i < 0 + data_length / in_block r → length (unit_out r stream i) ≡ out_unit r
+  unit_size_lem i h =
       length-append (input_block r stream i) (field_after r stream i (input_block r stream i))
-      ∙ omega (arith, block_size i (omega arith), field_length r stream i (input_block r stream i))
+      ∙ omega (arith, block_size_lem i (omega arith), field_length r stream i (input_block r stream i))
 
   -- The output stream is as long as the output domain's stream.
   output_length : length (output_of r stream data_length) ≡ stream_length r.output data_length
   output_length =
-      ap length output_units ∙ joined_length (unit_out r stream) (out_unit r) 0 (data_length / in_block r) unit_size
+      ap length output_units ∙ joined_length (unit_out r stream) (out_unit r) 0 (data_length / in_block r) unit_size_lem
       ∙ ap (λ (m : ℕ). data_length / m * out_unit r) (sym same) ∙ sym (stream_units r.output r.input data_length (agree_back g))
 
 module _ (k : Key) (memory wire : List ℕ) (offset data_length : ℕ) where
