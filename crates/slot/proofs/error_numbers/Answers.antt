@@ -9,4 +9,3 @@ returns-in-Empty c = rw (c.no_error.ensures, c.in-Empty.is)
 pub returns-in-Holding : goal.returns-in-Holding
 unfolding error_numbers
 returns-in-Holding c = rw (c.error_type.ensures, c.in-Holding.is)
-
