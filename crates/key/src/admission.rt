@@ -54,6 +54,7 @@ fn past(l: Layout, d: Domain, offset: LayoutOffset, data_length: u64) -> bool
 }
 
 // Returns the first of answers 14, 8, 9 and 10 that applies, or Done.
+#[tactic(auto, unfolding(crate::specs::Admitting::open_answer))]
 pub fn admit(key: Key, memory_length: u64, offset: LayoutOffset, data_length: u64) -> Outcome
     requires { KeyValid key }
     ensures { result ≡ admitting.open_answer key memory_length offset.0 data_length }

@@ -20,6 +20,7 @@ fn layout_answer(v: Verdict) -> Outcome
 }
 
 // Returns the first of answers 8, 1, 20 and 2 to 7 that applies.
+#[tactic(auto, unfolding(crate::specs::Configuring::configure_answer))]
 fn answer(memory_length: u64, c: Configuration) -> Outcome
     ensures { result ≡ answers.configure_answer memory_length c }
 {

@@ -27,11 +27,3 @@ returns-else-wire-stream_length c =
 pub returns-in-Refused : goal.returns-in-Refused
 unfolding transfer_answer
 returns-in-Refused c = rw (sym c.admit-outcome.ensures ∙ c.in-Refused.is)
-
--- UNMATCHED ??enum_told
--- | enum_told : tie.Need-enum-told
--- | enum_told c = search rules
-
--- UNMATCHED ??enum_known_outcome
--- | enum-known-outcome : tie.Need-enum-known-outcome
--- | enum-known-outcome c = search rules
