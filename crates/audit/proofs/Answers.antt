@@ -49,91 +49,91 @@ line_first r true rest lines m = record { told = refl }
 line_first r false rest lines m = record { told = m.told }
 
 -- The same where a second outcome follows the tests.
-line-then : (r : Refusal) (b : Bool) (rest second : Outcome) (lines : List Line) → Numbered (then rest second) lines → Numbered (then (refuse b r rest) second) (Line.line (refusal_number r) b ∷ lines)
+line_then : (r : Refusal) (b : Bool) (rest second : Outcome) (lines : List Line) → Numbered (then rest second) lines → Numbered (then (refuse b r rest) second) (Line.line (refusal_number r) b ∷ lines)
 unfolding first_of
-line-then r true rest second lines m = record { told = refl }
-line-then r false rest second lines m = record { told = m.told }
+line_then r true rest second lines m = record { told = refl }
+line_then r false rest second lines m = record { told = m.told }
 
 -- The same for a verdict before other verdicts.
-line-verdict : (v : Verdict) (b : Bool) (w : Verdict) (lines : List Line) → Numbered (layout_answer w) lines → Numbered (layout_answer (cond b v w)) (Line.line (number (layout_answer v)) b ∷ lines)
+line_verdict : (v : Verdict) (b : Bool) (w : Verdict) (lines : List Line) → Numbered (layout_answer w) lines → Numbered (layout_answer (cond b v w)) (Line.line (number (layout_answer v)) b ∷ lines)
 unfolding first_of
-line-verdict v true w lines m = record { told = refl }
-line-verdict v false w lines m = record { told = m.told }
+line_verdict v true w lines m = record { told = refl }
+line_verdict v false w lines m = record { told = m.told }
 
-configure-line : (n : ℕ) (c : Configuration) → Numbered (configure_answer n c) (configure_lines n c)
+configure_line : (n : ℕ) (c : Configuration) → Numbered (configure_answer n c) (configure_lines n c)
 unfolding configure_answer signature_answer verdict_on
-configure-line n c =
+configure_line n c =
     line_first MemoryLength _ _ _
-    (line-then BadDomain _ _ _ _ (line-then Edition _ _ _ _ (line-then EscapeTag _ _ _ _ (line-then CopyMask _ _ _ _ (line-then BlockSizes _ _ _ _
-    (line-verdict Malformed _ _ _ (line-verdict Outside _ _ _ (line-verdict Overlapping _ Sound _ no_line))))))))
+    (line_then BadDomain _ _ _ _ (line_then Edition _ _ _ _ (line_then EscapeTag _ _ _ _ (line_then CopyMask _ _ _ _ (line_then BlockSizes _ _ _ _
+    (line_verdict Malformed _ _ _ (line_verdict Outside _ _ _ (line_verdict Overlapping _ Sound _ no_line))))))))
 
-open-line : (k : Key) (n offset data_length : ℕ) → Numbered (open_answer k n offset data_length) (open_lines k n offset data_length)
+open_line : (k : Key) (n offset data_length : ℕ) → Numbered (open_answer k n offset data_length) (open_lines k n offset data_length)
 unfolding open_answer
-open-line k n offset data_length = line_first NotConfigured _ _ _ (line_first MemoryLength _ _ _ (line_first PartialBlock _ _ _ (line_first PastLayout _ _ _ no_line)))
+open_line k n offset data_length = line_first NotConfigured _ _ _ (line_first MemoryLength _ _ _ (line_first PartialBlock _ _ _ (line_first PastLayout _ _ _ no_line)))
 
-transfer-line : (k : Key) (n w offset data_length : ℕ) → Numbered (transfer_answer k n offset data_length w) (transfer_lines k n w offset data_length)
+transfer_line : (k : Key) (n w offset data_length : ℕ) → Numbered (transfer_answer k n offset data_length w) (transfer_lines k n w offset data_length)
 unfolding open_answer transfer_answer
-transfer-line k n w offset data_length =
-    line-then NotConfigured _ _ _ _ (line-then MemoryLength _ _ _ _ (line-then PartialBlock _ _ _ _ (line-then PastLayout _ _ _ _ (line_first ShortWire _ _ _ no_line))))
+transfer_line k n w offset data_length =
+    line_then NotConfigured _ _ _ _ (line_then MemoryLength _ _ _ _ (line_then PartialBlock _ _ _ _ (line_then PastLayout _ _ _ _ (line_first ShortWire _ _ _ no_line))))
 
-packet-line : (s : Session) (n m : ℕ) → Numbered (packet_answer s n m) (packet_lines s n m)
+packet_line : (s : Session) (n m : ℕ) → Numbered (packet_answer s n m) (packet_lines s n m)
 unfolding packet_answer
-packet-line s n m = line_first MemoryLength _ _ _ (line_first LongPacket _ _ _ no_line)
+packet_line s n m = line_first MemoryLength _ _ _ (line_first LongPacket _ _ _ no_line)
 
-finish-line : (s : Session) → Numbered (finish_answer s) (finish_lines s)
+finish_line : (s : Session) → Numbered (finish_answer s) (finish_lines s)
 unfolding finish_answer
-finish-line s = line_first BytesToCome _ _ _ no_line
+finish_line s = line_first BytesToCome _ _ _ no_line
 
 -- ---- the outcome of a result is the answer
 
-configured-outcome : (k : Key) (n : ℕ) (c : Configuration) (o : Outcome) → (configure_result_by o k n c).outcome ≡ o
-configured-outcome k n c Done = refl
-configured-outcome k n c (Refused r) = refl
+configured_outcome : (k : Key) (n : ℕ) (c : Configuration) (o : Outcome) → (configure_result_by o k n c).outcome ≡ o
+configured_outcome k n c Done = refl
+configured_outcome k n c (Refused r) = refl
 
-transferred-outcome : (o : Outcome) (k : Key) (taken written : ℕ) (error : Slot) → (transfer_result_by o k taken written error).outcome ≡ o
-transferred-outcome Done k taken written error = refl
-transferred-outcome (Refused r) k taken written error = refl
+transferred_outcome : (o : Outcome) (k : Key) (taken written : ℕ) (error : Slot) → (transfer_result_by o k taken written error).outcome ≡ o
+transferred_outcome Done k taken written error = refl
+transferred_outcome (Refused r) k taken written error = refl
 
-packet-outcome : (o : Outcome) (s : Session) (p : Progress) → (packet_result_by o s p).outcome ≡ o
-packet-outcome Done s p = refl
-packet-outcome (Refused r) s p = refl
+packet_outcome : (o : Outcome) (s : Session) (p : Progress) → (packet_result_by o s p).outcome ≡ o
+packet_outcome Done s p = refl
+packet_outcome (Refused r) s p = refl
 
-finished-outcome : (o : Outcome) (s : Session) → (finish_result_by o s).outcome ≡ o
-finished-outcome Done s = refl
-finished-outcome (Refused r) s = refl
+finished_outcome : (o : Outcome) (s : Session) → (finish_result_by o s).outcome ≡ o
+finished_outcome Done s = refl
+finished_outcome (Refused r) s = refl
 
 -- ---- the statements
 
 -- Check returns zeros on an empty slot.
-never-empty : (k : Key) → k.slot ≡ Empty → (check_result k).error ≡ no_error
+never_empty : (k : Key) → k.slot ≡ Empty → (check_result k).error ≡ no_error
 unfolding check_result error_numbers
-never-empty k e = rw e refl
+never_empty k e = rw e refl
 
 -- Each call returns the first of its lines.
-pub numbered-answers : NumberedAnswers
+pub numbered_answers : NumberedAnswers
 unfolding send_result receive_result packet_result
-numbered-answers = record {
-  configure = λ k n c. ap number (configured-outcome k n c (configure_answer n c)) ∙ (configure-line n c).told;
-  send = λ k memory wire offset data_length. ap number (transferred-outcome (answer_of k memory wire offset data_length) k _ _ _) ∙ (transfer-line k (length memory) (length wire) offset data_length).told;
-  receive = λ k memory wire offset data_length. ap number (transferred-outcome (answer_of k memory wire offset data_length) k _ _ _) ∙ (transfer-line k (length memory) (length wire) offset data_length).told;
-  «open» = λ k n offset data_length. (open-line k n offset.0 data_length).told;
-  packet = λ s n bytes. ap number (packet-outcome (packet_answer s n (length bytes)) s _) ∙ (packet-line s n (length bytes)).told;
-  finish = λ s. ap number (finished-outcome (finish_answer s) s) ∙ (finish-line s).told;
+numbered_answers = record {
+  configure = λ k n c. ap number (configured_outcome k n c (configure_answer n c)) ∙ (configure_line n c).told;
+  send = λ k memory wire offset data_length. ap number (transferred_outcome (answer_of k memory wire offset data_length) k _ _ _) ∙ (transfer_line k (length memory) (length wire) offset data_length).told;
+  receive = λ k memory wire offset data_length. ap number (transferred_outcome (answer_of k memory wire offset data_length) k _ _ _) ∙ (transfer_line k (length memory) (length wire) offset data_length).told;
+  «open» = λ k n offset data_length. (open_line k n offset.0 data_length).told;
+  packet = λ s n bytes. ap number (packet_outcome (packet_answer s n (length bytes)) s _) ∙ (packet_line s n (length bytes)).told;
+  finish = λ s. ap number (finished_outcome (finish_answer s) s) ∙ (finish_line s).told;
   abandon = λ s. no_line.told;
   check = never_zeros;
 }
 
 -- Each call of the C API returns the first of its lines, whether the struct is valid or not.
-pub c-numbered-answers : CNumberedAnswers
+pub c_numbered_answers : CNumberedAnswers
 unfolding c_configure c_send c_receive c_check c_open c_packet c_finish c_abandon first_of
-c-numbered-answers = record {
-  configure = λ c n new. by_test _ (c_key_valid c) (λ h. rw h (numbered-answers.configure (key_from_c c) n (configuration_from_c new))) (λ h. rw h refl);
-  send = λ c memory wire offset data_length. by_test _ (c_key_valid c) (λ h. rw h (numbered-answers.send (key_from_c c) memory wire offset data_length)) (λ h. rw h refl);
-  receive = λ c memory wire offset data_length. by_test _ (c_key_valid c) (λ h. rw h (numbered-answers.receive (key_from_c c) memory wire offset data_length)) (λ h. rw h refl);
-  «open» = λ c n offset data_length. by_test _ (c_key_valid c) (λ h. rw h (numbered-answers.«open» (key_from_c c) n (record { 0 = offset }) data_length)) (λ h. rw h refl);
-  packet = λ c n bytes. by_test _ (c_session_valid c) (λ h. rw h (numbered-answers.packet (session_from_c c) n bytes)) (λ h. rw h refl);
-  finish = λ c. by_test _ (c_session_valid c) (λ h. rw h (numbered-answers.finish (session_from_c c))) (λ h. rw h refl);
+c_numbered_answers = record {
+  configure = λ c n new. by_test _ (c_key_valid c) (λ h. rw h (numbered_answers.configure (key_from_c c) n (configuration_from_c new))) (λ h. rw h refl);
+  send = λ c memory wire offset data_length. by_test _ (c_key_valid c) (λ h. rw h (numbered_answers.send (key_from_c c) memory wire offset data_length)) (λ h. rw h refl);
+  receive = λ c memory wire offset data_length. by_test _ (c_key_valid c) (λ h. rw h (numbered_answers.receive (key_from_c c) memory wire offset data_length)) (λ h. rw h refl);
+  «open» = λ c n offset data_length. by_test _ (c_key_valid c) (λ h. rw h (numbered_answers.«open» (key_from_c c) n (record { 0 = offset }) data_length)) (λ h. rw h refl);
+  packet = λ c n bytes. by_test _ (c_session_valid c) (λ h. rw h (numbered_answers.packet (session_from_c c) n bytes)) (λ h. rw h refl);
+  finish = λ c. by_test _ (c_session_valid c) (λ h. rw h (numbered_answers.finish (session_from_c c))) (λ h. rw h refl);
   abandon = λ c. by_test _ (c_session_valid c) (λ h. rw h refl) (λ h. rw h refl);
   check = λ c. by_test _ (c_key_valid c) (λ h. rw h refl) (λ h. rw h refl);
-  zeros = λ c e. by_test _ (c_key_valid c) (λ h. rw (h, never-empty (key_from_c c) ((c_api.valid_key c h).3 e)) refl) (λ h. rw h refl);
+  zeros = λ c e. by_test _ (c_key_valid c) (λ h. rw (h, never_empty (key_from_c c) ((c_api.valid_key c h).3 e)) refl) (λ h. rw h refl);
 }
