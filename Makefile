@@ -29,7 +29,8 @@ WITH_SHARED := $$($(PKG_CONFIG) --cflags --libs garoalva)
 WITH_STATIC := $$($(PKG_CONFIG) --cflags garoalva) $$($(PKG_CONFIG) --variable=archive garoalva)
 WITH_ISAL := $$(pkg-config --exists libisal && echo -DHAVE_ISAL $$(pkg-config --cflags --libs libisal))
 
-PROVED := $(wildcard crates.txt) $(shell test -d crates && find crates -name out -prune -o \( -name '*.rt' -o -name '*.antt' \) -print)
+PROVED := $(wildcard crates.txt) \
+    $(shell test -d crates && find crates -name out -prune -o \( -name '*.rt' -o -name '*.antt' \) -print)
 
 .PHONY: all test test-header test-c test-versions test-guard test-rust test-reference bench install clean
 .DELETE_ON_ERROR:

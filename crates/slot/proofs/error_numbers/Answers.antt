@@ -1,4 +1,3 @@
-use borrow.Author.Rules.{rules}
 use Rattle.slot.specs.Slots.{error_numbers}
 use Rattle.slot.proofs.error_numbers.Goals as goal
 

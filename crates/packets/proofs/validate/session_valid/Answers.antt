@@ -14,16 +14,16 @@ stream_length-wire-requires c =
 
 pub returns-then-wire-progress : goal.returns-then-wire-progress
 returns-then-wire-progress c =
-    (too_far c.args.session c.requires _ c.admit-outcome.ensures c.in-Done.is ((rw c.receive_rule-rule.ensures at (sym c.in_step.ensures ∙ c.if-in_step.true))) _ c.stream_length-wire.ensures c.if-wire-progress.true, c.held_is_eight.ensures)
+    (too_far c.args.session c.requires _ c.admit-outcome.ensures c.in-Done.is (rw c.receive_rule-rule.ensures at (sym c.in_step.ensures ∙ c.if-in_step.true)) _ c.stream_length-wire.ensures c.if-wire-progress.true, c.held_is_eight.ensures)
 
 pub taken-requires : goal.taken-requires
 taken-requires c =
     rw c.receive_rule-rule.ensures
-    (countable c.args.session c.requires _ c.admit-outcome.ensures c.in-Done.is ((rw c.receive_rule-rule.ensures at (sym c.in_step.ensures ∙ c.if-in_step.true))) _ c.stream_length-wire.ensures c.if-wire-progress.false)
+    (countable c.args.session c.requires _ c.admit-outcome.ensures c.in-Done.is (rw c.receive_rule-rule.ensures at (sym c.in_step.ensures ∙ c.if-in_step.true)) _ c.stream_length-wire.ensures c.if-wire-progress.false)
 
 pub returns-then-in_step : goal.returns-then-in_step
 returns-then-in_step c = (
-  counted c.args.session c.requires _ c.admit-outcome.ensures c.in-Done.is ((rw c.receive_rule-rule.ensures at (sym c.in_step.ensures ∙ c.if-in_step.true))) _ c.stream_length-wire.ensures _
+  counted c.args.session c.requires _ c.admit-outcome.ensures c.in-Done.is (rw c.receive_rule-rule.ensures at (sym c.in_step.ensures ∙ c.if-in_step.true)) _ c.stream_length-wire.ensures _
       (rw c.receive_rule-rule.ensures at c.taken.ensures),
   c.held_is_eight.ensures,
 )
