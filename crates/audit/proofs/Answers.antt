@@ -1,28 +1,25 @@
 -- These laws prove that each call returns the first line of 01's table that applies to it.
+use Rattle.std.specs.Prelude.{⊤, Result, None, Ok, Err}
 use mathlib.Core.Path.{◌≡◌, refl, ap, ◌∙◌}
 use mathlib.Core.Bool.{Bool, true, false, cond}
 use mathlib.Core.List.{List, [], ◌∷◌}
 use Prim.Native.Nat.{ℕ}
 use lib.ListN.{length}
-use Rattle.layout.specs.declared.layout_rules.Verdict.{Verdict}
-use Rattle.layout.specs.declared.layout_rules.Verdict.TheVariants.{Sound, Malformed, Outside, Overlapping}
+use Rattle.layout.specs.declared.layout_rules.LayoutError.{LayoutError}
+use Rattle.layout.specs.declared.layout_rules.LayoutError.TheVariants.{Malformed, Outside, Overlapping}
 use Rattle.layout.specs.Answers.{verdict_on}
-use Rattle.slot.specs.Slots.{no_error, error_numbers}
+use Rattle.slot.specs.Slots.{no_error, error_numbers, Slot}
 use Rattle.key.specs.declared.Configuration.{Configuration}
 use Rattle.key.specs.declared.Key.{Key}
-use Rattle.key.specs.declared.Outcome.{Outcome}
-use Rattle.key.specs.declared.Outcome.TheVariants.{Done, Refused}
-use Rattle.key.specs.declared.Refusal.{Refusal}
-use Rattle.key.specs.declared.Refusal.TheVariants.{BadDomain, EscapeTag, CopyMask, BlockSizes, MemoryLength, PartialBlock, PastLayout, ShortWire, LongPacket, BytesToCome, NotConfigured, Edition}
-use Rattle.key.specs.Numbers.{refusal_number, number, refuse, then}
+use Rattle.key.specs.Numbers.{Outcome, refusal_number, number, refuse, then}
+use Rattle.key.specs.declared.refusal.Refusal.{Refusal}
+use Rattle.key.specs.declared.refusal.Refusal.TheVariants.{BadDomain, EscapeTag, CopyMask, BlockSizes, MemoryLength, PartialBlock, PastLayout, ShortWire, LongPacket, BytesToCome, NotConfigured, Edition}
 use Rattle.key.specs.Configuring.{signature_answer, layout_answer, configure_answer}
 use Rattle.key.specs.Keys.{configure_result_by, check_result}
 use Rattle.key.specs.Admitting.{open_answer, transfer_answer}
 use Rattle.key.proofs.Laws.{never_zeros}
 use Rattle.transfer.specs.Transferring.{answer_of, transfer_result_by, send_result, receive_result}
 use Rattle.engine.specs.declared.Progress.{Progress}
-use Rattle.slot.specs.declared.Slot.{Slot}
-use Rattle.slot.specs.declared.Slot.TheVariants.{Empty}
 use Rattle.packets.specs.declared.Session.{Session}
 use Rattle.packets.specs.Sessions.{packet_answer, packet_result_by, packet_result, finish_answer, finish_result_by}
 use Rattle.cstructs.specs.CStructs.{configuration_from_c, key_from_c, c_key_valid, session_from_c, c_session_valid}
@@ -38,7 +35,7 @@ record Numbered (o : Outcome) (lines : List Line) : Type 0 where
   pub told : number o ≡ first_of lines
 
 -- No test holds.
-no_line : Numbered Done []
+no_line : Numbered (Ok tt) []
 unfolding first_of
 no_line = record { told = refl }
 
@@ -55,7 +52,7 @@ line_then r true rest second lines m = record { told = refl }
 line_then r false rest second lines m = record { told = m.told }
 
 -- The same for a verdict before other verdicts.
-line_verdict : (v : Verdict) (b : Bool) (w : Verdict) (lines : List Line) → Numbered (layout_answer w) lines → Numbered (layout_answer (cond b v w)) (Line.line (number (layout_answer v)) b ∷ lines)
+line_verdict : (v : Result ⊤ LayoutError) (b : Bool) (w : Result ⊤ LayoutError) (lines : List Line) → Numbered (layout_answer w) lines → Numbered (layout_answer (cond b v w)) (Line.line (number (layout_answer v)) b ∷ lines)
 unfolding first_of
 line_verdict v true w lines m = record { told = refl }
 line_verdict v false w lines m = record { told = m.told }
@@ -65,7 +62,7 @@ unfolding configure_answer signature_answer verdict_on
 configure_line n c =
     line_first MemoryLength _ _ _
     (line_then BadDomain _ _ _ _ (line_then Edition _ _ _ _ (line_then EscapeTag _ _ _ _ (line_then CopyMask _ _ _ _ (line_then BlockSizes _ _ _ _
-    (line_verdict Malformed _ _ _ (line_verdict Outside _ _ _ (line_verdict Overlapping _ Sound _ no_line))))))))
+    (line_verdict (Err Malformed) _ _ _ (line_verdict (Err Outside) _ _ _ (line_verdict (Err Overlapping) _ (Ok tt) _ no_line))))))))
 
 open_line : (k : Key) (n offset data_length : ℕ) → Numbered (open_answer k n offset data_length) (open_lines k n offset data_length)
 unfolding open_answer
@@ -87,25 +84,25 @@ finish_line s = line_first BytesToCome _ _ _ no_line
 -- ---- the outcome of a result is the answer
 
 configured_outcome : (k : Key) (n : ℕ) (c : Configuration) (o : Outcome) → (configure_result_by o k n c).outcome ≡ o
-configured_outcome k n c Done = refl
-configured_outcome k n c (Refused r) = refl
+configured_outcome k n c (Ok tt) = refl
+configured_outcome k n c (Err r) = refl
 
 transferred_outcome : (o : Outcome) (k : Key) (taken written : ℕ) (error : Slot) → (transfer_result_by o k taken written error).outcome ≡ o
-transferred_outcome Done k taken written error = refl
-transferred_outcome (Refused r) k taken written error = refl
+transferred_outcome (Ok tt) k taken written error = refl
+transferred_outcome (Err r) k taken written error = refl
 
 packet_outcome : (o : Outcome) (s : Session) (p : Progress) → (packet_result_by o s p).outcome ≡ o
-packet_outcome Done s p = refl
-packet_outcome (Refused r) s p = refl
+packet_outcome (Ok tt) s p = refl
+packet_outcome (Err r) s p = refl
 
 finished_outcome : (o : Outcome) (s : Session) → (finish_result_by o s).outcome ≡ o
-finished_outcome Done s = refl
-finished_outcome (Refused r) s = refl
+finished_outcome (Ok tt) s = refl
+finished_outcome (Err r) s = refl
 
 -- ---- the statements
 
 -- Check returns zeros on an empty slot.
-never_empty : (k : Key) → k.slot ≡ Empty → (check_result k).error ≡ no_error
+never_empty : (k : Key) → k.slot ≡ None → (check_result k).error ≡ no_error
 unfolding check_result error_numbers
 never_empty k e = rw e refl
 

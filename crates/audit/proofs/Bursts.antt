@@ -1,4 +1,5 @@
 -- These laws prove request 9: a CRC guard finds every burst of at most 16 bits, and not every one of 17.
+use Rattle.std.specs.Prelude.{Some, None}
 use mathlib.Core.Path.{◌≡◌, refl, sym, ap, ◌∙◌}
 use mathlib.Core.Bool.{Bool, true, false, ◌&&◌, ◌||◌}
 use mathlib.Core.List.{List}
@@ -20,8 +21,7 @@ use Rattle.field.specs.declared.Tag.TheVariants.{Guard}
 use Rattle.field.specs.Domains.{signed}
 use Rattle.field.specs.Fields.{bytes_of, bytes_in, field_of, computed_field}
 use Rattle.field.specs.Judging.{escaped}
-use Rattle.slot.specs.declared.Slot.{Slot}
-use Rattle.slot.specs.declared.Slot.TheVariants.{Empty, Holding}
+use Rattle.slot.specs.Slots.{Slot}
 use Rattle.key.specs.declared.Key.{Key}
 use Rattle.key.proofs.Laws.{came_valid, admitted, transfer_admitted}
 use Rattle.key.specs.Streams.{stream_length}
@@ -116,9 +116,9 @@ finds_bursts r intact damaged i bi bd s g d = go (ℕ_discrete _ _)
 -- If block i is bad, the first error of n blocks is that of block i or of one before it.
 recorded_up_to : (r : Rule) (stream : List ℕ) (n i : ℕ) (tag : Tag) (slot : Slot) → signed r.input ≡ true → i < n
     → FirstBadTag r stream i tag → HoldsFirstError r stream n slot → RecordedUpTo r stream n i slot
-recorded_up_to r stream n i tag Empty s h bad holds =
+recorded_up_to r stream n i tag None s h bad holds =
     absurd (bad_not_good r stream i tag bad ((holds.none s).0 refl i h))
-recorded_up_to r stream n i tag (Holding e) s h bad holds =
+recorded_up_to r stream n i tag (Some e) s h bad holds =
     record { error = e; holds = refl; first_bad = first; up_to = go (dec_le first.block i) }
   where
     first : FirstBadBlock r stream n e

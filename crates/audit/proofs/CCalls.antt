@@ -1,5 +1,6 @@
 -- These laws are about the calls of the C API: they keep "came from the calls", and a refused one changes nothing. Both
 -- follow from the laws of the crates below.
+use Rattle.std.specs.Prelude.{Ok, Err}
 use mathlib.Core.Path.{◌≡◌, refl, ap, sym, ◌∙◌}
 use mathlib.Core.Bool.{Bool, true, false}
 use mathlib.Core.List.{List}
@@ -8,19 +9,17 @@ use native.Mathlib.Omega.{arith}
 use lib.ListN.{length}
 use Rattle.key.specs.declared.Key.{Key}
 use Rattle.key.specs.declared.Configuration.{Configuration}
-use Rattle.slot.specs.declared.Slot.{Slot}
-use Rattle.key.specs.declared.Outcome.{Outcome}
-use Rattle.key.specs.declared.Outcome.TheVariants.{Done, Refused}
-use Rattle.key.specs.declared.Refusal.{Refusal}
-use Rattle.key.specs.declared.Refusal.TheVariants.{BadDomain, EscapeTag, CopyMask, BlockSizes, MalformedLayout, OutsideMemory, Overlap, MemoryLength, PartialBlock, PastLayout, ShortWire, LongPacket, BytesToCome, NotConfigured, Edition}
-use Rattle.key.specs.Numbers.{number, refusal_number}
+use Rattle.slot.specs.Slots.{Slot}
+use Rattle.key.specs.Numbers.{Outcome, number, refusal_number}
+use Rattle.key.specs.declared.refusal.Refusal.{Refusal}
+use Rattle.key.specs.declared.refusal.Refusal.TheVariants.{BadDomain, EscapeTag, CopyMask, BlockSizes, MalformedLayout, OutsideMemory, Overlap, MemoryLength, PartialBlock, PastLayout, ShortWire, LongPacket, BytesToCome, NotConfigured, Edition}
 use Rattle.key.specs.Admitting.{open_answer}
 use Rattle.key.specs.Configuring.{configure_answer}
 use Rattle.key.specs.Keys.{fresh_key, configure_result, configure_result_by, check_result, CameFromCalls}
 use Rattle.engine.specs.declared.Progress.{Progress}
 use Rattle.transfer.specs.Transferring.{answer_of, transfer_result_by, becomes, send_result, wire_after_send, receive_result, memory_after_receive}
 use Rattle.packets.specs.declared.Session.{Session}
-use Rattle.packets.specs.declared.OpenResult.{OpenResult}
+use Rattle.packets.specs.Sessions.{OpenResult}
 use Rattle.packets.specs.Sessions.{opened_session, open_result, packet_answer, packet_result, packet_result_by, memory_after_packet, finish_result, finish_result_by, finish_answer, ended_key, abandon_result, SessionFromCalls}
 use Rattle.cstructs.specs.declared.CConfiguration.{CConfiguration}
 use Rattle.capi.specs.declared.COpenResult.{COpenResult}
@@ -53,10 +52,10 @@ no_refusal BytesToCome e = omega arith
 no_refusal NotConfigured e = omega arith
 no_refusal Edition e = omega arith
 
--- Only Done has the number 0.
-pub number_done : (o : Outcome) → number o ≡ 0 → o ≡ Done
-number_done Done e = refl
-number_done (Refused r) e = absurd (no_refusal r e)
+-- Only Ok has the number 0.
+pub number_done : (o : Outcome) → number o ≡ 0 → o ≡ Ok tt
+number_done (Ok tt) e = refl
+number_done (Err r) e = absurd (no_refusal r e)
 
 -- ---- what came from the calls
 
@@ -66,17 +65,17 @@ opened_came : (k : Key) → CameFromCalls k → (n offset data_length : ℕ)
     → let a = open_result_to_c (open_result k n (record { 0 = offset }) data_length) in (a.answer ≡ 0 → CSessionCame a.session) × (Refuses a.answer → CKeyCame a.key)
 opened_came k c n offset data_length = go (open_answer k n offset data_length) (λ d. premise_kept.«open» k n (record { 0 = offset }) data_length c d)
   where
-    go : (o : Outcome) → (o ≡ Done → SessionFromCalls (opened_session k (record { 0 = offset }) data_length))
+    go : (o : Outcome) → (o ≡ Ok tt → SessionFromCalls (opened_session k (record { 0 = offset }) data_length))
         → let a = open_result_to_c (record { outcome = o; key = k; session = opened_session k (record { 0 = offset }) data_length }) in (a.answer ≡ 0 → CSessionCame a.session) × (Refuses a.answer → CKeyCame a.key)
-    go Done f = (λ z. record { session = opened_session k (record { 0 = offset }) data_length; came = f refl; same = refl }, λ z. absurd (z refl))
-    go (Refused r) f = (λ z. absurd (no_refusal r z), λ z. record { key = k; came = c; same = refl })
+    go (Ok tt) f = (λ z. record { session = opened_session k (record { 0 = offset }) data_length; came = f refl; same = refl }, λ z. absurd (z refl))
+    go (Err r) f = (λ z. absurd (no_refusal r z), λ z. record { key = k; came = c; same = refl })
 
 -- An accepted finish returns the C struct of a key that came from the calls, and a refused one returns that of a
 -- session that came from them.
 finished_came : (s : Session) → SessionFromCalls s → (o : Outcome)
     → let a = finish_result_to_c (finish_result_by o s) in (a.answer ≡ 0 → CKeyCame a.key) × (Refuses a.answer → CSessionCame a.session)
-finished_came s c Done = (λ z. record { key = ended_key s; came = premise_kept.abandon s c; same = refl }, λ z. absurd (z refl))
-finished_came s c (Refused r) = (λ z. absurd (no_refusal r z), λ z. record { session = s; came = c; same = refl })
+finished_came s c (Ok tt) = (λ z. record { key = ended_key s; came = premise_kept.abandon s c; same = refl }, λ z. absurd (z refl))
+finished_came s c (Err r) = (λ z. absurd (no_refusal r z), λ z. record { session = s; came = c; same = refl })
 
 -- Each of the nine calls keeps the premise, and the C structs of what came from the calls are valid.
 pub c_premise_kept : CPremiseKept
@@ -127,30 +126,30 @@ by_test P false f g = g refl
 
 -- A refused configure returns the C struct of its key.
 configured_kept : (k : Key) (n : ℕ) (c : Configuration) (o : Outcome) → let a = configure_result_to_c (configure_result_by o k n c) in Refuses a.answer → a.key ≡ key_to_c k
-configured_kept k n c Done z = absurd (z refl)
-configured_kept k n c (Refused r) z = refl
+configured_kept k n c (Ok tt) z = absurd (z refl)
+configured_kept k n c (Err r) z = refl
 
 -- A refused transfer returns the C struct of its key and two zeros, and leaves the lent bytes.
 transferred_kept : (k : Key) (taken written : ℕ) (error : Slot) (before after : List ℕ) (o : Outcome)
     → let a = transfer_result_to_c (transfer_result_by o k taken written error) in Refuses a.answer → (a.key ≡ key_to_c k) × (becomes o before after ≡ before) × (a.taken ≡ 0) × (a.written ≡ 0)
-transferred_kept k taken written error before after Done z = absurd (z refl)
-transferred_kept k taken written error before after (Refused r) z = (refl, refl, refl, refl)
+transferred_kept k taken written error before after (Ok tt) z = absurd (z refl)
+transferred_kept k taken written error before after (Err r) z = (refl, refl, refl, refl)
 
 -- A refused open returns the C struct of its key, and a C struct that is no session.
 opened_kept : (a : OpenResult) (o : Outcome) → Refuses (number o) → (key_opened o a ≡ key_to_c a.key) × (session_opened o a ≡ no_session (key_to_c a.key))
-opened_kept a Done z = absurd (z refl)
-opened_kept a (Refused r) z = (refl, refl)
+opened_kept a (Ok tt) z = absurd (z refl)
+opened_kept a (Err r) z = (refl, refl)
 
 -- A refused packet returns the C struct of its session and two zeros, and leaves the lent memory.
 packet_result_kept : (s : Session) (p : Progress) (before after : List ℕ) (o : Outcome)
     → let a = packet_result_to_c (packet_result_by o s p) in Refuses a.answer → (a.session ≡ session_to_c s) × (becomes o before after ≡ before) × (a.taken ≡ 0) × (a.written ≡ 0)
-packet_result_kept s p before after Done z = absurd (z refl)
-packet_result_kept s p before after (Refused r) z = (refl, refl, refl, refl)
+packet_result_kept s p before after (Ok tt) z = absurd (z refl)
+packet_result_kept s p before after (Err r) z = (refl, refl, refl, refl)
 
 -- A refused finish returns the C struct of its session, and a C struct that is no key.
 pub finished_kept : (s : Session) (o : Outcome) → let a = finish_result_to_c (finish_result_by o s) in Refuses a.answer → (a.session ≡ session_to_c s) × (a.key ≡ unsealed (key_to_c s.key))
-finished_kept s Done z = absurd (z refl)
-finished_kept s (Refused r) z = (refl, refl)
+finished_kept s (Ok tt) z = absurd (z refl)
+finished_kept s (Err r) z = (refl, refl)
 
 -- The laws of this module are about refused calls on a valid C key.
 module _ (r : CKey) (h : c_key_valid r ≡ true) where

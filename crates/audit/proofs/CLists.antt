@@ -1,13 +1,12 @@
 -- These laws prove demand 3 for C: a list of calls on C structs corresponds to a list of calls of the crates below,
 -- which follows the packet rule.
+use Rattle.std.specs.Prelude.{Ok, Err}
 use mathlib.Core.Path.{◌≡◌, refl, ap, sym, ◌∙◌}
 use mathlib.Core.List.{List, [], ◌∷◌, map}
 use Prim.Native.Nat.{ℕ}
 use lib.ListN.{length}
-use Rattle.key.specs.declared.Outcome.{Outcome}
-use Rattle.key.specs.declared.Outcome.TheVariants.{Done, Refused}
-use Rattle.key.specs.declared.Refusal.{Refusal}
-use Rattle.key.specs.Numbers.{number}
+use Rattle.key.specs.Numbers.{Outcome, number}
+use Rattle.key.specs.declared.refusal.Refusal.{Refusal}
 use Rattle.key.specs.Admitting.{open_answer}
 use Rattle.engine.specs.declared.Progress.{Progress}
 use Rattle.engine.specs.Feeding.{fed}
@@ -32,12 +31,12 @@ use Rattle.audit.proofs.CCalls.{no_refusal, number_done, finished_kept}
 -- A refused outcome has a refusal.
 record Refusing (o : Outcome) : Type 0 where
   pub by : Refusal
-  pub told : o ≡ Refused by
+  pub told : o ≡ Err by
 
 -- An outcome whose number is not 0 is refused.
 refusing : (o : Outcome) → Refuses (number o) → Refusing o
-refusing Done z = absurd (z refl)
-refusing (Refused r) z = record { by = r; told = refl }
+refusing (Ok tt) z = absurd (z refl)
+refusing (Err r) z = record { by = r; told = refl }
 
 -- A refused packet returns the session as it was.
 packet_result_same : (s : Session) (n : ℕ) (bytes : List ℕ) → Refuses (number (packet_result s n bytes).outcome) → (packet_result s n bytes).session ≡ s
@@ -45,16 +44,16 @@ unfolding packet_result
 packet_result_same s n bytes = go (packet_answer s n (length bytes)) (fed (rule_of s) s.progress bytes)
   where
     go : (o : Outcome) (p : Progress) → Refuses (number (packet_result_by o s p).outcome) → (packet_result_by o s p).session ≡ s
-    go Done p z = absurd (z refl)
-    go (Refused r) p z = refl
+    go (Ok tt) p z = absurd (z refl)
+    go (Err r) p z = refl
 
 -- Finish returns the session as it was.
 finished_same : (s : Session) → (finish_result s).session ≡ s
 finished_same s = go (finish_answer s)
   where
     go : (o : Outcome) → (finish_result_by o s).session ≡ s
-    go Done = refl
-    go (Refused r) = refl
+    go (Ok tt) = refl
+    go (Err r) = refl
 
 -- The list of calls on C structs corresponds to a list of calls of the crates below that can be made.
 record Below (s : Session) (now : List ℕ) (calls : List CCall) : Type 0 where
@@ -139,7 +138,7 @@ c_made_on : {c c' : CSession} {now : List ℕ} {calls : List CCall} → c' ≡ c
 c_made_on e m = rw e m
 
 -- A refused outcome has a number that is not 0.
-refuses : (o : Outcome) (r : Refusal) → o ≡ Refused r → Refuses (number o)
+refuses : (o : Outcome) (r : Refusal) → o ≡ Err r → Refuses (number o)
 refuses o r e z = no_refusal r (ap number (sym e) ∙ z)
 
 -- A list of calls of the crates below that can be made corresponds to a list of C calls that can be made.

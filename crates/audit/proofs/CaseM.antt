@@ -1,10 +1,10 @@
 -- These laws prove case M: its calls return 01's numbers, and its lists of calls can be made and follow the packet rule.
+use Rattle.std.specs.Prelude.{Ok}
 use mathlib.Core.Path.{◌≡◌, refl}
 use mathlib.Core.Bool.{Bool, true, ◌&&◌}
 use mathlib.Core.List.{List, [], ◌∷◌}
 use Prim.Native.Nat.{zero, suc}
 use Rattle.guard.specs.Guards.{stepped, guard_value}
-use Rattle.key.specs.declared.Outcome.TheVariants.{Done}
 use Rattle.key.specs.Keys.{fresh_key}
 use Rattle.key.proofs.Laws.{came_fresh, came_configured}
 use Rattle.engine.specs.Feeding.{checks_guard, makes_guard, arrived, error_due, field_made, settled, fed, emitted}
@@ -35,7 +35,7 @@ small_requests (r ∷ rs) e zero = small_bytes (packet_of r) (both (small (packe
 small_requests (r ∷ rs) e (suc i) = small_requests rs (both (small (packet_of r)) (all_small rs) e).1 i
 
 -- The open of case M is accepted.
-opens : (open_result (key_over 16 domain_a 0xFF) 16 (record { 0 = 0 }) 16).outcome ≡ Done
+opens : (open_result (key_over 16 domain_a 0xFF) 16 (record { 0 = 0 }) 16).outcome ≡ Ok tt
 unfolding opened
 opens = refl
 

@@ -1,5 +1,6 @@
 -- These laws prove demand 2 for bytes, and demand 1 for send and receive: an accepted transfer stores its output in its
 -- destination and changes no other byte, and a refused one changes nothing.
+use Rattle.std.specs.Prelude.{Ok}
 use mathlib.Core.Path.{◌≡◌, refl, sym, ap, ◌∙◌}
 use mathlib.Core.Bool.{Bool, true, false}
 use mathlib.Core.List.{List, [], ◌++◌}
@@ -16,7 +17,6 @@ use Rattle.layout.proofs.PieceLaws.{length-places}
 use Rattle.layout.proofs.MoveLaws.{length-gathered, length-scattered, scattered_other, scattered_at, distinct_drop, below_drop}
 use Rattle.layout.proofs.AnswerLaws.{sound_distinct, within_below}
 use Rattle.key.specs.declared.Key.{Key}
-use Rattle.key.specs.declared.Outcome.TheVariants.{Done, Refused}
 use Rattle.key.specs.Keys.{CameFromCalls}
 use Rattle.key.specs.Streams.{stream_length}
 use Rattle.key.proofs.Laws.{came_valid, configure_done}
@@ -26,9 +26,8 @@ use Rattle.engine.specs.Transfers.{joined, field_after, output_stream}
 use Rattle.engine.specs.Inner.Standing.{unit_out}
 use Rattle.engine.proofs.Units.{block_length, by_units}
 use Rattle.transfer.specs.Rules.{send_rule, receive_rule, output_of}
-use Rattle.transfer.specs.Transferring.{memory_stream, wire_stream, answer_of, wire_after_send, memory_after_receive}
-use Rattle.transfer.proofs.Laws.{Agree, agree_back, same_size, stream_units, Accepted, accept, receive_refused}
-use Rattle.transfer.proofs.SendLaws.{send_refused}
+use Rattle.transfer.specs.Transferring.{memory_stream, wire_stream, answer_of, wire_after_send, memory_after_receive, send_result, receive_result}
+use Rattle.transfer.proofs.Laws.{Agree, agree_back, same_size, stream_units, Accepted, accept}
 use Rattle.audit.specs.Destination.{send_output, receive_output, SendFills, ReceiveFills, RefusedSend, RefusedReceive}
 
 -- ---- the length of the output
@@ -81,13 +80,15 @@ module _ (r : Rule) (data_length : ℕ) (g : Agree r.input r.output data_length)
 module _ (k : Key) (memory wire : List ℕ) (offset data_length : ℕ) where
   -- A refused send changes nothing.
   pub refused_send : RefusedSend k memory wire offset data_length
-  refused_send r e = let s = send_refused k memory wire offset data_length (Refused r) r (sym e) refl in (sym s.0, sym s.1)
+  unfolding send_result wire_after_send
+  refused_send r e = rw e (refl, refl)
 
   -- A refused receive changes nothing.
   pub refused_receive : RefusedReceive k memory wire offset data_length
-  refused_receive r e = let s = receive_refused k memory wire offset data_length (Refused r) r (sym e) refl in (sym s.0, sym s.1)
+  unfolding receive_result memory_after_receive
+  refused_receive r e = rw e (refl, refl)
 
-  module _ (c : CameFromCalls k) (e : answer_of k memory wire offset data_length ≡ Done) where
+  module _ (c : CameFromCalls k) (e : answer_of k memory wire offset data_length ≡ Ok tt) where
     -- The facts of `Accepted` hold for an accepted transfer.
     pub told : Accepted k (length memory) offset data_length (length wire)
     told = accept k (length memory) offset data_length (length wire) (came_valid k c) e

@@ -1,5 +1,7 @@
 -- These laws prove demand 2 for errors: the transfer rule's first error is that of the first bad block and of its first
 -- bad tag.
+use Rattle.field.specs.declared.Mismatch.{Mismatch}
+use Rattle.std.specs.Prelude.{Option, Some, None}
 use mathlib.Core.Path.{◌≡◌, refl, sym, ap, ◌∙◌}
 use mathlib.Core.Bool.{Bool, true, false, ◌&&◌, ◌||◌, not, cond}
 use mathlib.Core.List.{List, [], ◌∷◌}
@@ -10,8 +12,6 @@ use lib.Dec.{eqb, ltb, leb}
 use lib.ListN.{get_or}
 use borrow.Author.Tests.{le-leb, lt-leb, leb-true, ltb-true, not-true, not-false, eq-eqb, ne_eqb, eqb-true, eqb-false, lt-ltb}
 use Rattle.field.specs.declared.ProtectionField.{ProtectionField}
-use Rattle.field.specs.declared.Judgement.{Judgement}
-use Rattle.field.specs.declared.Judgement.TheVariants.{Good, Bad}
 use Rattle.field.specs.declared.Tag.{Tag}
 use Rattle.field.specs.declared.Tag.TheVariants.{Guard, Application, Reference}
 use Rattle.field.specs.Tests.{bit}
@@ -21,9 +21,7 @@ use Rattle.field.specs.Judging.{escaped, checked_mask, differs, digit, mask_of, 
 use Rattle.field.proofs.Laws.{digit_small}
 use Rattle.slot.specs.declared.Error.{Error}
 use Rattle.key.specs.declared.Key.{Key}
-use Rattle.slot.specs.declared.Slot.{Slot}
-use Rattle.slot.specs.declared.Slot.TheVariants.{Empty, Holding}
-use Rattle.slot.specs.Slots.{keep}
+use Rattle.slot.specs.Slots.{Slot, keep}
 use Rattle.engine.specs.declared.Rule.{Rule}
 use Rattle.engine.specs.Streams.{in_unit, input_block}
 use Rattle.engine.specs.Transfers.{joined, guard_by, slot_of, error_by, error_of, first_error}
@@ -190,10 +188,10 @@ module _ (bad : ℕ → Bool) where
 
 -- ---- the first bad tag, by a test for each byte
 
--- A judgement fits a test of each byte if it is Good and no byte is bad, or if it names the first tag with a bad byte.
-data Told (bad : ℕ → Bool) (rule seen : ProtectionField) : Judgement → Type 0 where
-  all_good : ((k : ℕ) → k < 8 → bad k ≡ false) → Told bad rule seen Good
-  tag_bad : (p : Tag) (k : ℕ) → first p ≤ k → k < after p → bad k ≡ true → ((j : ℕ) → j < first p → bad j ≡ false) → Told bad rule seen (Bad (mismatch p (set_by bad) rule seen))
+-- A judgement fits a test of each byte if it is none and no byte is bad, or if it names the first tag with a bad byte.
+data Told (bad : ℕ → Bool) (rule seen : ProtectionField) : Option Mismatch → Type 0 where
+  all_good : ((k : ℕ) → k < 8 → bad k ≡ false) → Told bad rule seen None
+  tag_bad : (p : Tag) (k : ℕ) → first p ≤ k → k < after p → bad k ≡ true → ((j : ℕ) → j < first p → bad j ≡ false) → Told bad rule seen (Some (mismatch p (set_by bad) rule seen))
 
 module _ (bad : ℕ → Bool) where
   -- The property `NotBad k` says that the test of byte k is false.
@@ -207,9 +205,9 @@ module _ (bad : ℕ → Bool) where
     -- The judgement that is chosen by the tests of the eight bytes fits them.
     by_bytes : (a b c d e f g h : Bool) → bad 0 ≡ a → bad 1 ≡ b → bad 2 ≡ c → bad 3 ≡ d → bad 4 ≡ e → bad 5 ≡ f → bad 6 ≡ g → bad 7 ≡ h
         → Told bad rule seen
-        (cond (a || b) (Bad (mismatch Guard (set_by bad) rule seen))
-        (cond (c || d) (Bad (mismatch Application (set_by bad) rule seen))
-        (cond ((e || f) || (g || h)) (Bad (mismatch Reference (set_by bad) rule seen)) Good)))
+        (cond (a || b) (Some (mismatch Guard (set_by bad) rule seen))
+        (cond (c || d) (Some (mismatch Application (set_by bad) rule seen))
+        (cond ((e || f) || (g || h)) (Some (mismatch Reference (set_by bad) rule seen)) None)))
     by_bytes true b c d e f g h i j k l m n o p = tag_bad Guard 0 (omega arith) (omega arith) i (none_below NotBad)
     by_bytes false true c d e f g h i j k l m n o p = tag_bad Guard 1 (omega arith) (omega arith) j (none_below NotBad)
     by_bytes false false true d e f g h i j k l m n o p = tag_bad Application 2 (omega arith) (omega arith) k (two_below NotBad i j)
@@ -300,15 +298,15 @@ module _ (r : Rule) (stream : List ℕ) (i : ℕ) where
 
   -- An empty slot says that the block is good, and a slot that holds an error that it is the block's.
   abbrev Says : Slot → Type 0
-  Says Empty = signed r.input ≡ true → GoodBlock r stream i
-  Says (Holding e) = (signed r.input ≡ true) × ErrorOfBlock r stream i e
+  Says None = signed r.input ≡ true → GoodBlock r stream i
+  Says (Some e) = (signed r.input ≡ true) × ErrorOfBlock r stream i e
 
   -- What the slot of a block says is true.
   error_says : Says (error_of r stream i)
   unfolding error_by slot_of
   error_says = go (signed r.input) refl
     where
-      judgement_says : signed r.input ≡ true → {j : Judgement} → Told bad_byte (computed r stream i) (found r stream i) j → Says (slot_of (i * in_unit r) j)
+      judgement_says : signed r.input ≡ true → {j : Option Mismatch} → Told bad_byte (computed r stream i) (found r stream i) j → Says (slot_of (i * in_unit r) j)
       judgement_says s (all_good h) = λ t k l. good_byte k (h k l)
       judgement_says s (tag_bad p k from to h before) = (
         s,
@@ -321,7 +319,7 @@ module _ (r : Rule) (stream : List ℕ) (i : ℕ) where
         },
       )
 
-      go : (t : Bool) → signed r.input ≡ t → Says (cond t (slot_of (i * in_unit r) (judged r.input r.check_mask i (guard_by r.input (input_block r stream i)) (found r stream i))) Empty)
+      go : (t : Bool) → signed r.input ≡ t → Says (cond t (slot_of (i * in_unit r) (judged r.input r.check_mask i (guard_by r.input (input_block r stream i)) (found r stream i))) None)
       go true s = judgement_says s judgement_told
       go false s = λ t. absurd (apart (sym s ∙ t))
 
@@ -331,8 +329,8 @@ module _ (r : Rule) (stream : List ℕ) where
   -- An empty slot says that the first n blocks are good, and a slot that holds an error says which is the first bad
   -- one.
   abbrev SaysAll : ℕ → Slot → Type 0
-  SaysAll n Empty = signed r.input ≡ true → (i : ℕ) → i < n → GoodBlock r stream i
-  SaysAll n (Holding e) = (signed r.input ≡ true) × FirstBadBlock r stream n e
+  SaysAll n None = signed r.input ≡ true → (i : ℕ) → i < n → GoodBlock r stream i
+  SaysAll n (Some e) = (signed r.input ≡ true) × FirstBadBlock r stream n e
 
   -- What the slot of the first n blocks says is true.
   first_says : (n : ℕ) → SaysAll n (first_error r stream n)
@@ -340,9 +338,9 @@ module _ (r : Rule) (stream : List ℕ) where
   first_says (suc n) = rw (errors_last r stream n) (go (first_error r stream n) (error_of r stream n) (first_says n) (error_says r stream n))
     where
       go : (a b : Slot) → SaysAll n a → Says r stream n b → SaysAll (suc n) (keep a b)
-      go (Holding e) b (s, f) h = (s, record { block = f.block; among = omega (arith, f.among); before = f.before; error = f.error })
-      go Empty (Holding e) all (s, own) = (s, record { block = n; among = omega arith; before = all s; error = own })
-      go Empty Empty all h = λ s. next_below (GoodBlock r stream) n (all s) (h s)
+      go (Some e) b (s, f) h = (s, record { block = f.block; among = omega (arith, f.among); before = f.before; error = f.error })
+      go None (Some e) all (s, own) = (s, record { block = n; among = omega arith; before = all s; error = own })
+      go None None all h = λ s. next_below (GoodBlock r stream) n (all s) (h s)
 
   -- A block with a bad tag is not good.
   pub bad_not_good : (i : ℕ) (p : Tag) → FirstBadTag r stream i p → GoodBlock r stream i → ⊥
@@ -362,8 +360,8 @@ module _ (r : Rule) (stream : List ℕ) where
       never e f all = bad_not_good f.block e.mismatch.tag f.error.tag (all f.block f.among)
 
       go : (a : Slot) → SaysAll n a → HoldsFirstError r stream n a
-      go Empty h = record { unsigned = λ s. refl; none = λ s. ((λ q. h s), (λ q. refl)); some = λ s e q. let z : ◌≡◌ {A = ℕ} 0 1 = cc in absurd (omega arith) }
-      go (Holding e) (s, f) = record {
+      go None h = record { unsigned = λ s. refl; none = λ s. ((λ q. h s), (λ q. refl)); some = λ s e q. let z : ◌≡◌ {A = ℕ} 0 1 = cc in absurd (omega arith) }
+      go (Some e) (s, f) = record {
         unsigned = λ t. absurd (apart (sym t ∙ s));
         none = λ t. ((λ q. let z : ◌≡◌ {A = ℕ} 0 1 = cc in absurd (omega arith)), (λ all. absurd (never e f all)));
         some = λ t e' q. let same : e ≡ e' = cc in rw same at f;

@@ -16,16 +16,14 @@
 --   rule_a, wire_with                        the rule and the wires of the examples
 --   wire_sixteen, wire_seventeen             A's wire with a burst of 16 bits, and with one of 17
 --   BurstExamples                          the first is found, the second is not
-use Rattle.std.specs.Prelude.{◌≡◌, true, false, List, [], ◌∷◌, ◌++◌, ℕ, ◌+◌, ◌-◌, ◌/◌, ◌%◌, ◌^◌, ◌≤◌, ◌<◌, length, drop, get_or}
+use Rattle.std.specs.Prelude.{◌≡◌, true, false, List, [], ◌∷◌, ◌++◌, ℕ, ◌+◌, ◌-◌, ◌/◌, ◌%◌, ◌^◌, ◌≤◌, ◌<◌, length, drop, get_or, Some, None, Ok}
 use Rattle.guard.specs.Guards.{Bytes}
 use Rattle.field.specs.declared.Tag.TheVariants.{Guard}
 use Rattle.field.specs.Domains.{signed}
 use Rattle.field.specs.Judging.{escaped}
 use Rattle.slot.specs.declared.Error.{Error}
-use Rattle.slot.specs.declared.Slot.{Slot}
-use Rattle.slot.specs.declared.Slot.TheVariants.{Empty, Holding}
+use Rattle.slot.specs.Slots.{Slot}
 use Rattle.key.specs.declared.Key.{Key}
-use Rattle.key.specs.declared.Outcome.TheVariants.{Done}
 use Rattle.key.specs.Keys.{CameFromCalls}
 use Rattle.engine.specs.declared.Rule.{Rule}
 use Rattle.engine.specs.Streams.{in_block, input_block, input_field}
@@ -89,7 +87,7 @@ FindsBursts width =
 -- After n blocks the slot holds the error of the first bad block, and that is block i or one before it.
 pub record RecordedUpTo (r : Rule) (stream : List ℕ) (n i : ℕ) (slot : Slot) : Type 0 where
   pub error : Error
-  pub holds : slot ≡ Holding error
+  pub holds : slot ≡ Some error
   pub first_bad : FirstBadBlock r stream n error
   pub up_to : first_bad.block ≤ i
 
@@ -101,11 +99,11 @@ ReceiveFindsBurst k memory intact damaged offset data_length i =
     let r = receive_rule k.signature in
     let stream = wire_stream k damaged data_length in
     let blocks = data_length / in_block r in
-    CameFromCalls k → answer_of k memory damaged offset data_length ≡ Done → i < blocks → Bytes intact → Bytes damaged
+    CameFromCalls k → answer_of k memory damaged offset data_length ≡ Ok tt → i < blocks → Bytes intact → Bytes damaged
     → Guarded r (wire_stream k intact data_length) i
     → Damaged sure_bits r (wire_stream k intact data_length) stream i
     → FirstBadTag r stream i Guard
-    × (k.slot ≡ Empty
+    × (k.slot ≡ None
     → RecordedUpTo r stream blocks i (receive_result k memory damaged offset data_length).key.slot)
 
 -- ---- the bound is sharp

@@ -14,12 +14,10 @@ use Rattle.layout.specs.declared.Layout.{Layout}
 use Rattle.layout.specs.Pieces.{places, total}
 use Rattle.key.specs.declared.Configuration.{Configuration}
 use Rattle.key.specs.declared.Key.{Key}
-use Rattle.key.specs.declared.CheckResult.{CheckResult}
+use Rattle.key.specs.Keys.{CheckResult, fresh_key, configure_result, check_result}
 use Rattle.key.specs.Numbers.{number}
 use Rattle.field.specs.Domains.{unsigned_domain}
-use Rattle.key.specs.Keys.{fresh_key, configure_result, check_result}
-use Rattle.transfer.specs.declared.TransferResult.{TransferResult}
-use Rattle.transfer.specs.Transferring.{send_result, wire_after_send, receive_result, memory_after_receive}
+use Rattle.transfer.specs.Transferring.{TransferResult, send_result, wire_after_send, receive_result, memory_after_receive}
 
 -- ---- what the cases share
 

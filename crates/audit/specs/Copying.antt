@@ -10,14 +10,13 @@
 --   SentOn b, ReceivedOn b           byte b of each field is output as it came in
 --   SendCopies, ReceiveCopies        so it is wherever the copy mask in force says copy
 --   SendKeepsGuard, ReceiveKeepsGuard     and so are both guard bytes under OneGuard
-use Rattle.std.specs.Prelude.{◌≡◌, true, List, ℕ, ◌+◌, ◌*◌, ◌/◌, ◌<◌, get_or}
+use Rattle.std.specs.Prelude.{◌≡◌, true, List, ℕ, ◌+◌, ◌*◌, ◌/◌, ◌<◌, get_or, Ok}
 use Rattle.guard.specs.Guards.{Bytes}
 use Rattle.field.specs.Domains.{signed}
 use Rattle.field.specs.Fields.{field_bytes}
 use Rattle.field.specs.Output.{copy_mask}
 use Rattle.key.specs.declared.Signature.{Signature}
 use Rattle.key.specs.declared.Key.{Key}
-use Rattle.key.specs.declared.Outcome.TheVariants.{Done}
 use Rattle.key.specs.Keys.{CameFromCalls}
 use Rattle.transfer.specs.Transferring.{answer_of, wire_after_send, memory_after_receive}
 use Rattle.audit.specs.Errors.{InMask}
@@ -60,7 +59,7 @@ module _ (k : Key) (memory wire : List ℕ) (offset data_length : ℕ) where
   -- Of an accepted send: wherever bit b of the copy mask in force is set.
   abbrev pub SendCopies : Type 0
   SendCopies =
-      CameFromCalls k → answer_of k memory wire offset data_length ≡ Done → Bytes memory → BothSigned k.signature
+      CameFromCalls k → answer_of k memory wire offset data_length ≡ Ok tt → Bytes memory → BothSigned k.signature
       → (b : ℕ) → b < field_bytes
       → InMask (copy_mask k.signature.attribute_flags k.signature.copy_mask
       k.signature.memory k.signature.wire) b
@@ -69,7 +68,7 @@ module _ (k : Key) (memory wire : List ℕ) (offset data_length : ℕ) where
   -- Of an accepted receive: wherever bit b of the copy mask in force is set.
   abbrev pub ReceiveCopies : Type 0
   ReceiveCopies =
-      CameFromCalls k → answer_of k memory wire offset data_length ≡ Done → Bytes wire → BothSigned k.signature
+      CameFromCalls k → answer_of k memory wire offset data_length ≡ Ok tt → Bytes wire → BothSigned k.signature
       → (b : ℕ) → b < field_bytes
       → InMask (copy_mask k.signature.attribute_flags k.signature.copy_mask
       k.signature.wire k.signature.memory) b
@@ -78,11 +77,11 @@ module _ (k : Key) (memory wire : List ℕ) (offset data_length : ℕ) where
   -- Both guard bytes, so that a damaged block is sent with the guard that it had in memory.
   abbrev pub SendKeepsGuard : Type 0
   SendKeepsGuard =
-      CameFromCalls k → answer_of k memory wire offset data_length ≡ Done → Bytes memory → BothSigned k.signature
+      CameFromCalls k → answer_of k memory wire offset data_length ≡ Ok tt → Bytes memory → BothSigned k.signature
       → OneGuard k.signature → (b : ℕ) → b < 2 → SentOn b
 
   -- Both guard bytes, so that a damaged block is stored with the guard that it had on the wire.
   abbrev pub ReceiveKeepsGuard : Type 0
   ReceiveKeepsGuard =
-      CameFromCalls k → answer_of k memory wire offset data_length ≡ Done → Bytes wire → BothSigned k.signature
+      CameFromCalls k → answer_of k memory wire offset data_length ≡ Ok tt → Bytes wire → BothSigned k.signature
       → OneGuard k.signature → (b : ℕ) → b < 2 → ReceivedOn b

@@ -9,17 +9,14 @@
 --   WireHolds, MemoryHolds           every byte after a send, after a receive
 --   SendFills, ReceiveFills          so it is after an accepted transfer
 --   RefusedSend, RefusedReceive      a refused transfer changes nothing
-use Rattle.std.specs.Prelude.{◌≡◌, List, ℕ, ◌+◌, ◌≤◌, ◌<◌, length, get_or}
+use Rattle.std.specs.Prelude.{◌≡◌, List, ℕ, ◌+◌, ◌≤◌, ◌<◌, length, get_or, Ok, Err}
 use Rattle.layout.specs.Pieces.{places}
 use Rattle.key.specs.declared.Key.{Key}
-use Rattle.key.specs.declared.Refusal.{Refusal}
-use Rattle.key.specs.declared.Outcome.TheVariants.{Done, Refused}
+use Rattle.key.specs.declared.refusal.Refusal.{Refusal}
 use Rattle.key.specs.Keys.{CameFromCalls}
 use Rattle.key.specs.Streams.{stream_length}
-use Rattle.transfer.specs.declared.TransferResult.{TransferResult}
+use Rattle.transfer.specs.Transferring.{TransferResult, memory_stream, wire_stream, answer_of, send_result, wire_after_send, receive_result, memory_after_receive}
 use Rattle.transfer.specs.Rules.{send_rule, receive_rule, output_of}
-use Rattle.transfer.specs.Transferring.{memory_stream, wire_stream, answer_of, send_result, wire_after_send}
-use Rattle.transfer.specs.Transferring.{receive_result, memory_after_receive}
 
 -- The rule's output bytes of a send.
 abbrev pub send_output : (k : Key) (memory : List ℕ) (offset data_length : ℕ) → List ℕ
@@ -36,7 +33,7 @@ place_of k offset j = get_or (places k.layout) (offset + j) 0
 
 -- What a refused transfer returns: its number, two zeros, and the key as it was.
 abbrev pub refused_with : (k : Key) (r : Refusal) → TransferResult
-refused_with k r = record { outcome = Refused r; taken = 0; written = 0; key = k }
+refused_with k r = record { outcome = Err r; taken = 0; written = 0; key = k }
 
 module _ (k : Key) (memory wire : List ℕ) (offset data_length : ℕ) where
   -- The wire after a send: the output bytes, as many as the wire stream has, and after them those that were there.
@@ -65,22 +62,22 @@ module _ (k : Key) (memory wire : List ℕ) (offset data_length : ℕ) where
 
   -- An accepted send fills the wire so.
   abbrev pub SendFills : Type 0
-  SendFills = CameFromCalls k → answer_of k memory wire offset data_length ≡ Done → WireHolds
+  SendFills = CameFromCalls k → answer_of k memory wire offset data_length ≡ Ok tt → WireHolds
 
   -- An accepted receive fills memory so.
   abbrev pub ReceiveFills : Type 0
-  ReceiveFills = CameFromCalls k → answer_of k memory wire offset data_length ≡ Done → MemoryHolds
+  ReceiveFills = CameFromCalls k → answer_of k memory wire offset data_length ≡ Ok tt → MemoryHolds
 
   -- A refused send changes nothing.
   abbrev pub RefusedSend : Type 0
   RefusedSend =
-      (r : Refusal) → answer_of k memory wire offset data_length ≡ Refused r
+      (r : Refusal) → answer_of k memory wire offset data_length ≡ Err r
       → (send_result k memory wire offset data_length ≡ refused_with k r)
       × (wire_after_send k memory wire offset data_length ≡ wire)
 
   -- A refused receive changes nothing.
   abbrev pub RefusedReceive : Type 0
   RefusedReceive =
-      (r : Refusal) → answer_of k memory wire offset data_length ≡ Refused r
+      (r : Refusal) → answer_of k memory wire offset data_length ≡ Err r
       → (receive_result k memory wire offset data_length ≡ refused_with k r)
       × (memory_after_receive k memory wire offset data_length ≡ memory)

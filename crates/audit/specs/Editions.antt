@@ -13,17 +13,15 @@
 --   ReferenceCopied               without a given copy mask, the reference tag is copied exactly if ReferencesAgree
 --   tagged, tags, answer_to, read_by_second    what the examples compute
 --   EditionExamples               tags, answers, and a stream of edition 1 that is received by edition 2
-use Rattle.std.specs.Prelude.{◌≡◌, true, false, List, [], ◌∷◌, ◌++◌, ◌↔◌, ◌⊎◌, ℕ, ◌+◌, ◌*◌, ◌/◌, ◌%◌, ◌^◌, ◌≤◌, ◌<◌, replicate}
+use Rattle.std.specs.Prelude.{◌≡◌, true, false, List, [], ◌∷◌, ◌++◌, ◌↔◌, ◌⊎◌, ℕ, ◌+◌, ◌*◌, ◌/◌, ◌%◌, ◌^◌, ◌≤◌, ◌<◌, replicate, None, Ok}
 use Rattle.field.specs.declared.Domain.{Domain}
 use Rattle.field.specs.declared.ProtectionField.{ProtectionField}
-use Rattle.field.specs.declared.Judgement.TheVariants.{Good}
 use Rattle.field.specs.declared.Tag.TheVariants.{Reference}
 use Rattle.field.specs.Domains.{signed, unsigned_domain, remaps}
 use Rattle.field.specs.Domains.{edition1, edition2, sector_size, reference_tag, domain_from}
 use Rattle.field.specs.Judging.{escaped, judged}
 use Rattle.field.specs.Output.{copy_mask}
 use Rattle.key.specs.declared.Configuration.{Configuration}
-use Rattle.key.specs.declared.Outcome.TheVariants.{Done}
 use Rattle.key.specs.Numbers.{number}
 use Rattle.key.specs.Configuring.{configure_answer}
 use Rattle.key.specs.Keys.{fresh_key, configure_result, check_result}
@@ -46,7 +44,7 @@ pub record AcceptedTags (d : Domain) : Type 0 where
 -- `AcceptedTags` holds for each signed domain of every accepted configuration.
 abbrev pub TagsAccepted : Type 0
 TagsAccepted =
-    (memory_length : ℕ) (c : Configuration) → configure_answer memory_length c ≡ Done
+    (memory_length : ℕ) (c : Configuration) → configure_answer memory_length c ≡ Ok tt
     → (signed c.signature.memory ≡ true → AcceptedTags c.signature.memory)
     × (signed c.signature.wire ≡ true → AcceptedTags c.signature.wire)
 
@@ -82,7 +80,7 @@ field_with d guard tag = record { guard = guard; application = d.application_tag
 abbrev pub TagsChecked : Type 0
 TagsChecked =
     (d : Domain) (check_mask i guard tag : ℕ) → AllReference check_mask → escaped d (field_with d guard tag) ≡ false
-    → (judged d check_mask i guard (field_with d guard tag) ≡ Good) ↔ (tag ≡ reference_tag d i)
+    → (judged d check_mask i guard (field_with d guard tag) ≡ None) ↔ (tag ≡ reference_tag d i)
 
 -- Both domains have one reference tag, remap flag and edition.
 pub record ReferencesAgree (a b : Domain) : Type 0 where

@@ -17,7 +17,7 @@
 --   FirstBadBlock r stream n e       the error is that of the first bad block
 --   HoldsFirstError r stream n slot  what a slot that was empty holds after n blocks
 --   SendFindsFirstError, ReceiveFindsFirstError    so it is after an accepted transfer from an empty slot
-use Rattle.std.specs.Prelude.{◌≡◌, true, false, List, ◌↔◌, ℕ, ◌+◌, ◌*◌, ◌/◌, ◌≤◌, ◌<◌, get_or}
+use Rattle.std.specs.Prelude.{◌≡◌, true, false, List, ◌↔◌, ℕ, ◌+◌, ◌*◌, ◌/◌, ◌≤◌, ◌<◌, get_or, Some, None, Ok}
 use Rattle.guard.specs.Guards.{Bytes}
 use Rattle.field.specs.declared.ProtectionField.{ProtectionField}
 use Rattle.field.specs.declared.Tag.{Tag}
@@ -26,10 +26,8 @@ use Rattle.field.specs.Domains.{signed}
 use Rattle.field.specs.Fields.{field_bytes, bytes_of, bytes_in, field_of, computed_field}
 use Rattle.field.specs.Judging.{escaped, value_of}
 use Rattle.slot.specs.declared.Error.{Error}
-use Rattle.slot.specs.declared.Slot.{Slot}
-use Rattle.slot.specs.declared.Slot.TheVariants.{Empty, Holding}
+use Rattle.slot.specs.Slots.{Slot}
 use Rattle.key.specs.declared.Key.{Key}
-use Rattle.key.specs.declared.Outcome.TheVariants.{Done}
 use Rattle.engine.specs.declared.Rule.{Rule}
 use Rattle.engine.specs.Streams.{in_block, in_unit, input_block, input_field}
 use Rattle.engine.specs.Transfers.{guard_by}
@@ -122,22 +120,22 @@ pub record FirstBadBlock (r : Rule) (stream : List ℕ) (n : ℕ) (e : Error) : 
 
 -- What a slot that was empty holds after n blocks.
 pub record HoldsFirstError (r : Rule) (stream : List ℕ) (n : ℕ) (slot : Slot) : Type 0 where
-  pub unsigned : signed r.input ≡ false → slot ≡ Empty
-  pub none : signed r.input ≡ true → (slot ≡ Empty) ↔ ((i : ℕ) → i < n → GoodBlock r stream i)
-  pub some : signed r.input ≡ true → (e : Error) → slot ≡ Holding e → FirstBadBlock r stream n e
+  pub unsigned : signed r.input ≡ false → slot ≡ None
+  pub none : signed r.input ≡ true → (slot ≡ None) ↔ ((i : ℕ) → i < n → GoodBlock r stream i)
+  pub some : signed r.input ≡ true → (e : Error) → slot ≡ Some e → FirstBadBlock r stream n e
 
 -- ---- of an accepted transfer from an empty slot
 
 -- An accepted send.
 abbrev pub SendFindsFirstError : (k : Key) (memory wire : List ℕ) (offset data_length : ℕ) → Type 0
 SendFindsFirstError k memory wire offset data_length =
-    k.slot ≡ Empty → answer_of k memory wire offset data_length ≡ Done
+    k.slot ≡ None → answer_of k memory wire offset data_length ≡ Ok tt
     → HoldsFirstError (send_rule k.signature) (memory_stream k memory offset data_length)
     (data_length / in_block (send_rule k.signature)) (send_result k memory wire offset data_length).key.slot
 
 -- An accepted receive.
 abbrev pub ReceiveFindsFirstError : (k : Key) (memory wire : List ℕ) (offset data_length : ℕ) → Type 0
 ReceiveFindsFirstError k memory wire offset data_length =
-    k.slot ≡ Empty → answer_of k memory wire offset data_length ≡ Done
+    k.slot ≡ None → answer_of k memory wire offset data_length ≡ Ok tt
     → HoldsFirstError (receive_rule k.signature) (wire_stream k wire data_length)
     (data_length / in_block (receive_rule k.signature)) (receive_result k memory wire offset data_length).key.slot

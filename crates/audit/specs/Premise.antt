@@ -2,20 +2,17 @@
 -- and what came from these calls meets the precondition of the calls.
 --
 --   PremiseKept      the statement, with a line for each of the nine calls
-use Rattle.std.specs.Prelude.{◌≡◌, true, List, ℕ}
+use Rattle.std.specs.Prelude.{◌≡◌, true, List, ℕ, Ok}
 use Rattle.guard.specs.Guards.{Bytes}
 use Rattle.layout.specs.declared.offset.LayoutOffset.{LayoutOffset}
-use Rattle.slot.specs.declared.Slot.{Slot}
-use Rattle.slot.specs.Slots.{keep}
+use Rattle.slot.specs.Slots.{Slot, keep}
 use Rattle.key.specs.declared.Key.{Key}
 use Rattle.key.specs.declared.Configuration.{Configuration}
-use Rattle.key.specs.declared.Outcome.TheVariants.{Done}
 use Rattle.key.specs.Keys.{fresh_key, with_slot, configure_result, check_result, CameFromCalls, KeyValid}
 use Rattle.key.specs.Admitting.{open_answer}
 use Rattle.transfer.specs.Transferring.{send_result, receive_result}
 use Rattle.packets.specs.declared.Session.{Session}
-use Rattle.packets.specs.Sessions.{open_result, packet_result, finish_result, abandon_result}
-use Rattle.packets.specs.Sessions.{SessionFromCalls, SessionValid}
+use Rattle.packets.specs.Sessions.{open_result, packet_result, finish_result, abandon_result, SessionFromCalls, SessionValid}
 
 pub record PremiseKept : Type 0 where
   -- Keys.
@@ -37,7 +34,7 @@ pub record PremiseKept : Type 0 where
   -- Sessions, and the keys that they return.
   pub «open» :
       (k : Key) (memory_length : ℕ) (offset : LayoutOffset) (data_length : ℕ)
-      → CameFromCalls k → open_answer k memory_length offset.0 data_length ≡ Done
+      → CameFromCalls k → open_answer k memory_length offset.0 data_length ≡ Ok tt
       → SessionFromCalls (open_result k memory_length offset data_length).session
   pub packet :
       (s : Session) (memory_length : ℕ) (bytes : List ℕ)

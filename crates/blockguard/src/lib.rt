@@ -6,7 +6,7 @@ ghost use Rattle.std.specs.Prelude.{◌≡◌};
 ghost use Rattle.guard.specs.Guards.{guard_of};
 
 // The most bytes that `guard::advance` takes at once.
-const PART_LIMIT: u64 = 4294967296;
+const PART_LIMIT: usize = 4294967296;
 
 // Returns the guard of a block of any length.
 #[unsafe(no_mangle)]
@@ -14,11 +14,8 @@ pub extern "C" fn block_guard(guard_type: u32, seed: u16, block: &[u8]) -> u16
     ensures { result ≡ guard_of guard_type seed block.now }
 {
     let mut g = guard::start(seed);
-    let mut rest = block;
-    while 0 < rest.len() {
-        let n = arith::min(rest.len() as u64, PART_LIMIT) as usize;
-        g = guard::advance(guard_type, g, &rest[0..n]);
-        rest = &rest[n..];
+    for part in block.chunks(PART_LIMIT) {
+        g = guard::advance(guard_type, g, part);
     }
     guard::value(guard_type, g)
 }

@@ -1,1 +1,2 @@
 pub mod ThreeCases
+pub mod Calls

@@ -3,25 +3,19 @@
 --
 --   not_key, not_session                  our own answers
 --   configure_result_to_c .. abandon_result_to_c    what the calls below return, as C structs
+--   totals_to_c key totals                what a transfer returns, from its totals or its refusal
 --   session_opened, key_opened, session_finished, key_finished    the key and the session of open and finish
 --   not_transferred k                    what a transfer returns for a struct that is no key
 --   c_configure, c_send, c_receive, c_check, c_open, c_packet, c_finish, c_abandon    what the calls return
 --   wire_after_c_send, memory_after_c_receive, memory_after_c_packet    the lent bytes after them
-use Rattle.std.specs.Prelude.{cond, List, ℕ}
+use Rattle.std.specs.Prelude.{cond, List, ℕ, Result, Ok, Err}
 use Rattle.slot.specs.Slots.{no_error}
-use Rattle.key.specs.declared.ConfigureResult.{ConfigureResult}
-use Rattle.key.specs.declared.CheckResult.{CheckResult}
-use Rattle.key.specs.declared.Outcome.{Outcome}
-use Rattle.key.specs.declared.Outcome.TheVariants.{Done, Refused}
-use Rattle.key.specs.Numbers.{number}
-use Rattle.key.specs.Keys.{configure_result, check_result}
-use Rattle.transfer.specs.declared.TransferResult.{TransferResult}
-use Rattle.transfer.specs.Transferring.{send_result, wire_after_send, receive_result, memory_after_receive}
-use Rattle.packets.specs.declared.OpenResult.{OpenResult}
-use Rattle.packets.specs.declared.PacketResult.{PacketResult}
-use Rattle.packets.specs.declared.FinishResult.{FinishResult}
-use Rattle.packets.specs.declared.AbandonResult.{AbandonResult}
-use Rattle.packets.specs.Sessions.{open_result, packet_result, memory_after_packet, finish_result, abandon_result}
+use Rattle.key.specs.declared.refusal.Refusal.{Refusal}
+use Rattle.key.specs.Numbers.{Outcome, refusal_number, number}
+use Rattle.key.specs.Keys.{ConfigureResult, CheckResult, configure_result, check_result}
+use Rattle.transfer.specs.declared.Totals.{Totals}
+use Rattle.transfer.specs.Transferring.{TransferResult, send_result, wire_after_send, receive_result, memory_after_receive}
+use Rattle.packets.specs.Sessions.{OpenResult, PacketResult, FinishResult, AbandonResult, open_result, packet_result, memory_after_packet, finish_result, abandon_result}
 use Rattle.cstructs.specs.declared.CConfiguration.{CConfiguration}
 use Rattle.cstructs.specs.declared.CKey.{CKey}
 use Rattle.cstructs.specs.declared.CSession.{CSession}
@@ -54,19 +48,24 @@ abbrev pub transfer_result_to_c : (t : TransferResult) → CTransferResult
 transfer_result_to_c t =
     record { key = key_to_c t.key; answer = number t.outcome; taken = t.taken; written = t.written }
 
+-- The same, from the key after it and its totals or its refusal.
+abbrev pub totals_to_c : (key : CKey) (totals : Result Totals Refusal) → CTransferResult
+totals_to_c key (Ok t) = record { key = key; answer = 0; taken = t.taken; written = t.written }
+totals_to_c key (Err r) = record { key = key; answer = refusal_number r; taken = 0; written = 0 }
+
 -- Check. Its answer is 0.
 abbrev pub check_result_to_c : (c : CheckResult) → CCheckResult
 check_result_to_c c = record { key = key_to_c c.key; answer = 0; error = c.error; spare = 0 }
 
 -- The session of an open, or none if it was refused.
 abbrev pub session_opened : (outcome : Outcome) (o : OpenResult) → CSession
-session_opened Done o = session_to_c o.session
-session_opened (Refused r) o = no_session (key_to_c o.key)
+session_opened (Ok tt) o = session_to_c o.session
+session_opened (Err r) o = no_session (key_to_c o.key)
 
 -- The key of a refused open, as it was given. An accepted one returns none: the caller goes on with the session.
 abbrev pub key_opened : (outcome : Outcome) (o : OpenResult) → CKey
-key_opened Done o = unsealed (key_to_c o.key)
-key_opened (Refused r) o = key_to_c o.key
+key_opened (Ok tt) o = unsealed (key_to_c o.key)
+key_opened (Err r) o = key_to_c o.key
 
 -- Open.
 abbrev pub open_result_to_c : (o : OpenResult) → COpenResult
@@ -83,13 +82,13 @@ packet_result_to_c p =
 
 -- The session of a refused finish. An accepted one ends the session.
 abbrev pub session_finished : (outcome : Outcome) (f : FinishResult) → CSession
-session_finished Done f = no_session (key_to_c f.key)
-session_finished (Refused r) f = session_to_c f.session
+session_finished (Ok tt) f = no_session (key_to_c f.key)
+session_finished (Err r) f = session_to_c f.session
 
 -- The key of a finish, or none if it was refused.
 abbrev pub key_finished : (outcome : Outcome) (f : FinishResult) → CKey
-key_finished Done f = key_to_c f.key
-key_finished (Refused r) f = unsealed (key_to_c f.key)
+key_finished (Ok tt) f = key_to_c f.key
+key_finished (Err r) f = unsealed (key_to_c f.key)
 
 -- Finish.
 abbrev pub finish_result_to_c : (f : FinishResult) → CFinishResult

@@ -4,16 +4,14 @@
 --   ActsAs k key, NoKey k                   a C key stands for a key; it is none
 --   SessionActsAs s session, NoSession s    the same of a C session
 --   CApi                                    the C API as a whole
-use Rattle.std.specs.Prelude.{◌≡◌, true, false, List, ℕ, length}
+use Rattle.std.specs.Prelude.{◌≡◌, true, false, List, ℕ, length, None}
 use Rattle.field.specs.Fields.{field_bytes}
-use Rattle.slot.specs.declared.Slot.TheVariants.{Empty}
 use Rattle.slot.specs.Slots.{no_error}
 use Rattle.key.specs.declared.Key.{Key}
 use Rattle.key.specs.Keys.{configure_result, check_result, CameFromCalls, KeyValid}
 use Rattle.transfer.specs.Transferring.{send_result, wire_after_send, receive_result, memory_after_receive}
 use Rattle.packets.specs.declared.Session.{Session}
-use Rattle.packets.specs.Sessions.{open_result, packet_result, memory_after_packet, finish_result, abandon_result}
-use Rattle.packets.specs.Sessions.{SessionFromCalls, SessionValid}
+use Rattle.packets.specs.Sessions.{open_result, packet_result, memory_after_packet, finish_result, abandon_result, SessionFromCalls, SessionValid}
 use Rattle.cstructs.specs.declared.CConfiguration.{CConfiguration}
 use Rattle.cstructs.specs.declared.CKey.{CKey}
 use Rattle.cstructs.specs.declared.CSession.{CSession}
@@ -89,7 +87,7 @@ pub record CApi : Type 0 where
   pub valid_key :
       (c : CKey) → c_key_valid c ≡ true
       → ActsAs c (key_from_c c) × KeyValid (key_from_c c) × (key_to_c (key_from_c c) ≡ c)
-      × ((key_from_c c).configured ≡ false → (key_from_c c).slot ≡ Empty)
+      × ((key_from_c c).configured ≡ false → (key_from_c c).slot ≡ None)
   pub valid_session :
       (c : CSession) → c_session_valid c ≡ true → length c.held ≡ field_bytes
       → SessionActsAs c (session_from_c c) × SessionValid (session_from_c c) × (session_to_c (session_from_c c) ≡ c)

@@ -1,27 +1,31 @@
 // These are the calls on a key: fresh, configure, send, receive, check.
 ghost use Rattle.std.specs.Prelude.{◌≡◌, length};
 ghost use Rattle.key.specs.Keys.{fresh_key, with_slot};
+ghost use Rattle.key.specs.Numbers.{refusal_number};
 ghost use Rattle.cstructs.specs.CStructs.{key_from_c, key_to_c};
 ghost use Rattle.capi.specs.Calls as calls;
 
 use crate::{CCheckResult, CConfigureResult, CTransferResult, NOT_A_KEY};
-use cstructs::{CConfiguration, CKey, c_key_valid, key_from_c, key_to_c, with_slot};
+use cstructs::{CConfiguration, CKey};
+use key::{Configuration, Key, Refusal};
 use layout::LayoutOffset;
-use transfer::TransferResult;
+use slot::{ErrorNumbers, Slot};
+use transfer::Totals;
 
-// Widens an answer to the 64 bits that C gets.
-pub(crate) fn wide(n: u32) -> u64
-    ensures { result ≡ n }
+// Returns the number of a refusal, in the 64 bits that C gets: std has no conversion from a refusal to these.
+pub(crate) fn number(refusal: Refusal) -> u64
+    ensures { result ≡ refusal_number refusal }
 {
-    n as u64
+    u64::from(u32::from(refusal))
 }
 
 pub fn garoalva_fresh() -> CKey
     ensures { result ≡ key_to_c fresh_key }
 {
-    key_to_c(key::fresh())
+    CKey::from(Key::fresh())
 }
 
+#[tactic(auto, unfolding(crate::specs::Calls::c_configure))]
 pub fn garoalva_configure(
     key: CKey,
     memory: &[u8],
@@ -29,37 +33,35 @@ pub fn garoalva_configure(
 ) -> CConfigureResult
     ensures { result ≡ calls.c_configure key (length memory.now) configuration }
 {
-    if c_key_valid(key) {
-        let c = key::configure(
-            key_from_c(key),
-            memory,
-            cstructs::configuration_from_c(configuration),
-        );
-        let outcome = c.outcome;
+    if !key.is_valid() {
         return CConfigureResult {
-            key: key_to_c(c.key),
-            answer: wide(key::number(outcome)),
+            key,
+            answer: NOT_A_KEY,
         };
     }
+    let mut k = Key::from(key);
+    let outcome = k.configure(memory, Configuration::from(configuration));
     CConfigureResult {
-        key,
-        answer: NOT_A_KEY,
+        key: CKey::from(k),
+        answer: u64::from(key::number(outcome)),
     }
 }
 
-// Returns the result of a transfer as a C struct. A transfer changes nothing of the key but its slot.
-fn transfer_result(key: CKey, t: TransferResult) -> CTransferResult
-    requires { (key_to_c (key_from_c key) ≡ key) × (t.key ≡ with_slot (key_from_c key) t.key.slot) }
-    ensures { result ≡ calls.transfer_result_to_c t }
+// Returns the result of a transfer as a C struct: its totals, or its refusal with zeros. A transfer changes nothing of the
+// key but its slot. The struct is written once, since each literal of it would copy the key.
+fn transfer_result(key: CKey, slot: Slot, totals: Result<Totals, Refusal>) -> CTransferResult
+    requires { key_to_c (key_from_c key) ≡ key }
+    ensures { result ≡ calls.totals_to_c (key_to_c (with_slot (key_from_c key) slot)) totals }
 {
-    let outcome = t.outcome;
-    let after = t.key;
-    let slot = after.slot;
+    let (answer, taken, written) = match totals {
+        Ok(t) => (0, t.taken, t.written),
+        Err(refusal) => (number(refusal), 0, 0),
+    };
     CTransferResult {
-        key: with_slot(key, slot),
-        answer: wide(key::number(outcome)),
-        taken: t.taken,
-        written: t.written,
+        key: key.with_slot(slot),
+        answer,
+        taken,
+        written,
     }
 }
 
@@ -75,6 +77,7 @@ fn not_a_key_result(key: CKey) -> CTransferResult
     }
 }
 
+#[tactic(auto, unfolding(crate::specs::Calls::c_send, crate::specs::Calls::wire_after_c_send), using(cstructs::proofs::Laws::key_back, cstructs::proofs::Laws::valid_key, crate::proofs::Calls::sent))]
 pub fn garoalva_send(
     key: CKey,
     memory: &[u8],
@@ -85,16 +88,16 @@ pub fn garoalva_send(
     ensures value { result ≡ calls.c_send key memory.now wire.old offset data_length }
     ensures wire_after { wire.new ≡ calls.wire_after_c_send key memory.now wire.old offset data_length }
 {
-    if c_key_valid(key) {
-        let at = LayoutOffset::new(offset);
-        return transfer_result(
-            key,
-            transfer::send(key_from_c(key), memory, wire, at, data_length),
-        );
+    if !key.is_valid() {
+        return not_a_key_result(key);
     }
-    not_a_key_result(key)
+    let mut k = Key::from(key);
+    let at = LayoutOffset::new(offset);
+    let totals = transfer::send(&mut k, memory, wire, at, data_length);
+    transfer_result(key, k.slot, totals)
 }
 
+#[tactic(auto, unfolding(crate::specs::Calls::c_receive, crate::specs::Calls::memory_after_c_receive), using(cstructs::proofs::Laws::key_back, cstructs::proofs::Laws::valid_key, crate::proofs::Calls::received))]
 pub fn garoalva_receive(
     key: CKey,
     memory: &mut [u8],
@@ -105,33 +108,33 @@ pub fn garoalva_receive(
     ensures value { result ≡ calls.c_receive key memory.old wire.now offset data_length }
     ensures memory_after { memory.new ≡ calls.memory_after_c_receive key memory.old wire.now offset data_length }
 {
-    if c_key_valid(key) {
-        let at = LayoutOffset::new(offset);
-        return transfer_result(
-            key,
-            transfer::receive(key_from_c(key), memory, wire, at, data_length),
-        );
+    if !key.is_valid() {
+        return not_a_key_result(key);
     }
-    not_a_key_result(key)
+    let mut k = Key::from(key);
+    let at = LayoutOffset::new(offset);
+    let totals = transfer::receive(&mut k, memory, wire, at, data_length);
+    transfer_result(key, k.slot, totals)
 }
 
+#[tactic(auto, unfolding(crate::specs::Calls::c_check))]
 pub fn garoalva_check(key: CKey) -> CCheckResult
     ensures { result ≡ calls.c_check key }
 {
-    if c_key_valid(key) {
-        let c = key::check(key_from_c(key));
-        let error = c.error;
+    if !key.is_valid() {
         return CCheckResult {
-            key: key_to_c(c.key),
-            answer: 0,
-            error,
+            key,
+            answer: NOT_A_KEY,
+            error: ErrorNumbers::default(),
             spare: 0,
         };
     }
+    let mut k = Key::from(key);
+    let error = k.check();
     CCheckResult {
-        key,
-        answer: NOT_A_KEY,
-        error: slot::no_error(),
+        key: CKey::from(k),
+        answer: 0,
+        error,
         spare: 0,
     }
 }

@@ -1,5 +1,6 @@
 // The C symbols of the C API (include/garoalva.h): each export makes the call of the same name in capi, and promises what
-// that call promises.
+// that call promises. They are functions of their own, because audit and replay use the calls as a library, and a static
+// library can't be used so.
 
 #![tactic(auto)]
 

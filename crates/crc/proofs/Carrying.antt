@@ -1,22 +1,75 @@
 -- Six words are carried from word to word.
 use mathlib.Core.Path.{◌≡◌, refl, sym, ap, ap₂, ◌∙◌}
-use mathlib.Core.List.{List, [], ◌∷◌}
-use Prim.Native.Nat.{ℕ, ◌+◌, ◌-◌, ◌*◌, ◌/◌, ◌%◌, ◌^◌, ◌≤◌, ◌<◌}
+use mathlib.Core.List.{List, [], ◌∷◌, ◌++◌}
+use Prim.Native.Nat.{ℕ, zero, suc, ◌+◌, ◌*◌, ◌/◌, ◌%◌, ◌^◌, ◌≤◌, ◌<◌}
+use native.Mathlib.Nat.{zero-mul}
 use native.Mathlib.Omega.{arith}
-use lib.ListN.{length, get_or, take, drop}
-use lib.Seq.{drop-length}
+use lib.ListN.{length, get_or, take, drop, drop_of_length-le, take-append-drop}
+use lib.Seq.{drop-length, take-add, take_all}
+use Rattle.std.specs.Int.{w64, from_be_bytes}
+use Rattle.std.specs.List.{concat}
+use Rattle.std.specs.Simd.{first_chunks}
+use Rattle.std.proofs.lemmas.List.{drop_more}
 use lib.Bits.{bit_xor, xor_comm, xor_lt, xor_zero_r}
-use Rattle.crc.specs.declared.six_words.SixWords.{SixWords}
+use Rattle.crc.specs.Crc.{crc}
 use Rattle.crc.specs.Division.{followed}
 use Rattle.crc.specs.Inner.Remainders.{rem, rem_bits, reduce, Same}
-use Rattle.crc.specs.Inner.Folding.{times, times_low, times_high, with_word, with_rest, bytes_at, with_register, crc_of}
-use Rattle.crc.specs.Inner.Carried.{value, Heads}
+use Rattle.crc.specs.Inner.Folding.{times, times_low, times_high, with_word, with_rest, with_register, crc_of}
 use Rattle.crc.proofs.Xor.{xor_assoc, xor_past, xor_scale, xor_parts, shift_shift}
 use Rattle.crc.proofs.Remainders.{same, back, then, same_left, same_right}
 use Rattle.crc.proofs.Folding.{fold, with_sum, product_in_words}
-use Rattle.crc.proofs.Pieces.{followed-first, followed_same}
+use Rattle.crc.proofs.Pieces.{followed_from, followed-first, followed-append, followed_same}
 use Rattle.crc.proofs.Registers.{crc_of_same, crc_of_register}
-use Rattle.crc.proofs.Reading.{read_next, rest_of}
+use Rattle.crc.proofs.Reading.{word_joined}
+
+-- ---- chunks of the data
+
+-- Chunk i is entered, and the others are left.
+pub chunk_entered : (cs : List (List ℕ)) (i x : ℕ) {y n : ℕ} → i < length cs → Same y (followed 8 x (get_or cs i []))
+    → Same (followed 8 x (concat (drop i cs))) n → Same (followed 8 y (concat (drop (i + 1) cs))) n
+chunk_entered cs i x h p q =
+    then (followed_same 8 (concat (drop (i + 1) cs)) p)
+    (then
+    (same
+    (sym
+    (ap (λ (l : List (List ℕ)). followed 8 x (concat l)) (drop_more cs i [] h)
+    ∙ followed-append 8 x (get_or cs i []) (concat (drop (i + 1) cs)))))
+    q)
+
+-- No chunk is left.
+pub chunks_entered : (cs : List (List ℕ)) (i x : ℕ) {n : ℕ} → length cs ≤ i → Same (followed 8 x (concat (drop i cs))) n
+    → Same x n
+unfolding followed
+chunks_entered cs i x h q =
+    then (same (ap (λ (l : List (List ℕ)). followed 8 x (concat l)) (sym (drop_of_length-le cs h)))) q
+
+-- The first k chunks of n bytes are the first bytes.
+chunks_joined : (n k : ℕ) (s : List ℕ) → concat (first_chunks n k s) ≡ take (k * n) s
+chunks_joined n zero s = ap (λ (m : ℕ). take m s) (sym (zero-mul n))
+chunks_joined n (suc k) s =
+    ap (λ (l : List ℕ). take n s ++ l) (chunks_joined n k (drop n s))
+    ∙ sym (take-add n (k * n) s)
+    ∙ ap (λ (m : ℕ). take m s) (omega arith)
+
+-- Chunks that leave no byte are all of s.
+pub chunks_whole : (n : ℕ) (s : List ℕ) (cs : List (List ℕ)) → cs ≡ first_chunks n (length s / n) s
+    → length s / n * n ≡ length s → concat cs ≡ s
+chunks_whole n s cs e h =
+    ap concat e ∙ chunks_joined n (length s / n) s ∙ take_all (length s / n * n) s (omega (arith, h))
+
+-- The bytes that fill no chunk follow those that do.
+pub chunks_and_rest : (n x : ℕ) (s rest : List ℕ) (cs : List (List ℕ)) {y : ℕ} → cs ≡ first_chunks n (length s / n) s
+    → rest ≡ drop (length s / n * n) s → Same y (followed 8 x (concat cs))
+    → crc_of (followed 8 y rest) ≡ crc_of (followed 8 x s)
+chunks_and_rest n x s rest cs e r q =
+    crc_of_same (followed_same 8 rest q)
+    ∙ ap crc_of
+    (ap₂ (λ (a b : List ℕ). followed 8 (followed 8 x a) b) (ap concat e ∙ chunks_joined n (length s / n) s) r
+    ∙ sym (followed-append 8 x (take m s) (drop m s))
+    ∙ ap (followed 8 x) (take-append-drop m s))
+  where
+    m : ℕ
+    m = length s / n * n
 
 -- ---- a word more: x^384 has the remainder of x^46 + x^15
 
@@ -57,12 +110,16 @@ word_appended a b c d e f w =
         ∙ ap (bit_xor w) (xor_scale 64 rest (a * 2 ^ 320) ∙ ap (bit_xor (rest * 2 ^ 64)) (shift_shift a 320 64))
         ∙ sym (xor_assoc w (rest * 2 ^ 64) (a * 2 ^ 384))
 
--- Words with the remainder of x and then the word at i may stand for x and that word.
-pub word_entered : (s : List ℕ) (i j x w : ℕ) {y : ℕ} → i + 8 ≡ j → j ≤ length s → w ≡ bytes_at s i 8
-    → Same y (with_word x w) → Same (with_rest y s j) (with_rest x s i)
-word_entered s i j x w e h q p =
-    then (followed_same 8 (drop j s) p)
-    (same (ap (λ (v : ℕ). with_rest (with_word x v) s j) q ∙ read_next s i 8 j x e h))
+-- Words with the remainder of x and then a word have that of x and the word's bytes.
+pub bytes_appended : (x w : ℕ) (bs : List ℕ) {y : ℕ} → length bs ≡ 8 → ((k : ℕ) → get_or bs k 0 < 256)
+    → w ≡ from_be_bytes w64 bs → Same y (with_word x w) → Same y (followed 8 x bs)
+bytes_appended x w bs h b e p =
+    then p
+    (same
+    (sym
+    (followed_from 8 x bs
+    ∙ xor_comm (x * 2 ^ (8 * length bs)) (followed 8 0 bs)
+    ∙ ap₂ (λ (m k : ℕ). bit_xor m (x * 2 ^ (8 * k))) (sym (e ∙ word_joined bs h b)) h)))
 
 -- Five words of 0 before a word add nothing.
 pub word_alone : (w : ℕ) → followed 64 0 (0 ∷ 0 ∷ 0 ∷ 0 ∷ 0 ∷ w ∷ []) ≡ w
@@ -117,6 +174,15 @@ fold_39 : (h : ℕ) → Same (h * 2 ^ 39) (times 15 (10 ∷ 7 ∷ 0 ∷ []) h)
 unfolding rem rem_bits reduce
 fold_39 h = fold 39 15 (10 ∷ 7 ∷ 0 ∷ []) refl h
 
+-- The product of 25 bits fits into one word.
+pub low_is_all : (h : ℕ) → h < 2 ^ 25 → times_low 15 (10 ∷ 7 ∷ 0 ∷ []) h ≡ times 15 (10 ∷ 7 ∷ 0 ∷ []) h
+low_is_all h l =
+    let p : h * 2 ^ 15 % 2 ^ 64 ≡ h * 2 ^ 15 = omega arith in
+    let q : h * 2 ^ 10 % 2 ^ 64 ≡ h * 2 ^ 10 = omega arith in
+    let r : h * 2 ^ 7 % 2 ^ 64 ≡ h * 2 ^ 7 = omega arith in
+    let t : h * 2 ^ 0 % 2 ^ 64 ≡ h * 2 ^ 0 = omega arith in
+    ap₂ bit_xor p (ap₂ bit_xor q (ap₂ bit_xor r t))
+
 -- The bits from x^39 on are folded, and those below stay.
 pub word_shortened : (w h : ℕ) → h ≡ times 15 (10 ∷ 7 ∷ 0 ∷ []) (w / 2 ^ 39) → Same (bit_xor h (w % 2 ^ 39)) w
 word_shortened w h e =
@@ -134,11 +200,6 @@ shortened_lt h l p q e =
 
 -- ---- the head of a part, and the rest
 
--- The bytes left after a loop, as a slice of their own.
-pub crc_of_rest : (s : List ℕ) (i x : ℕ) {n : ℕ} → Same (with_rest x s i) n
-    → crc_of (followed 8 x (take (length s - i) (drop i s))) ≡ crc_of n
-crc_of_rest s i x p = ap (λ (l : List ℕ). crc_of (followed 8 x l)) (rest_of s i) ∙ crc_of_same p
-
 -- No byte is left after all of s.
 pub nothing_left : (s : List ℕ) (x : ℕ) → with_rest x s (length s) ≡ x
 unfolding followed
@@ -146,9 +207,7 @@ nothing_left s x = ap (followed 8 x) (drop-length s)
 
 -- The words x and the bytes from n on lead to the register, if they have the remainder of the first k bytes with the
 -- register and the bytes from k on.
-pub head_leads : (k start : ℕ) (s : List ℕ) (x : SixWords) (n : ℕ) → 2 ≤ k → k ≤ length s → start < 65536
-    → ((i : ℕ) → get_or s i 0 < 256) → n ≤ length s
-    → Same (with_rest (value x) s n) (with_rest (with_register start k s) s k)
-    → Heads start s (record { words = x; taken = n })
-head_leads k start s x n l h hs hb w p =
-    record { within = w; leads = crc_of_same p ∙ crc_of_register k start s l h hs hb }
+pub head_leads : (k start : ℕ) (s : List ℕ) (x n : ℕ) → 2 ≤ k → k ≤ length s → start < 65536
+    → ((i : ℕ) → get_or s i 0 < 256) → Same (with_rest x s n) (with_rest (with_register start k s) s k)
+    → crc_of (with_rest x s n) ≡ crc start s
+head_leads k start s x n l h hs hb p = crc_of_same p ∙ crc_of_register k start s l h hs hb

@@ -1,11 +1,12 @@
 -- The table's entries do the work of eight steps of the register.
 use mathlib.Core.Path.{◌≡◌, sym, ap, ap₂, ◌∙◌}
+use mathlib.Core.List.{List}
 use Prim.Native.Nat.{ℕ, zero, suc, ◌+◌, ◌*◌, ◌/◌, ◌%◌, ◌<◌}
 use native.Mathlib.Nat.{add-zero, zero-add, add-suc, suc-add, mod-lt, mul_assoc}
 use native.Mathlib.Omega.{arith}
 use lib.ListN.{get_or}
 use lib.Pow.{pow_pos}
-use lib.Bits.{bit_xor, xor_comm, xor_lt, xor_shifted}
+use lib.Bits.{bit_xor, xor_comm, xor_shifted}
 use Rattle.crc.specs.Crc.{crc_byte}
 use Rattle.crc.specs.Inner.Remainders.{rem}
 use Rattle.crc.specs.Inner.Tables.{remainders_from, table, Index}
@@ -24,18 +25,11 @@ entry : (k : ℕ) → k < 256 → get_or table k 0 ≡ rem (k * 65536)
 unfolding table
 entry k h = entry_from 256 0 k h ∙ ap (λ (x : ℕ). rem (x * 65536)) (zero-add k)
 
--- The register's high byte plus the byte, in a wider type, is the index.
-pub index_of : (r b wide : ℕ) → r < 65536 → (wide ≡ b) × (wide < 256) → Index r b (bit_xor (r / 256) wide)
-index_of r b wide hr e = record {
-  sum = ap (bit_xor (r / 256)) e.0;
-  small = xor_lt 8 (r / 256) wide (omega arith) e.1;
-}
-
 -- The register times x^8, plus an entry for what leaves it at the top, is the register after the byte.
-pub crc_byte_by_entry : (r b k : ℕ) → r < 65536 → b < 256 → Index r b k
-    → bit_xor (r * 256 % 65536) (get_or table k 0) ≡ crc_byte r b
-crc_byte_by_entry r b k hr hb p =
-    ap₂ bit_xor (sym (rem_small low (mod-lt (r * 256) (pow_pos 16)))) (entry k p.small)
+pub crc_byte_by_entry : (t : List ℕ) (r b k : ℕ) → r < 65536 → b < 256 → Index r b k → t ≡ table
+    → bit_xor (r * 256 % 65536) (get_or t k 0) ≡ crc_byte r b
+crc_byte_by_entry t r b k hr hb p e =
+    ap₂ bit_xor (sym (rem_small low (mod-lt (r * 256) (pow_pos 16)))) (ap (λ (l : List ℕ). get_or l k 0) e ∙ entry k p.small)
     ∙ sym (rem-xor low (k * 65536))
     ∙ ap rem (sym parts)
     ∙ sym (crc_byte_lem r b hr hb)

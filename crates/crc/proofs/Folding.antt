@@ -1,15 +1,16 @@
 -- Where x^m has the remainder of a sum of lower powers, that sum may stand for it under any factor.
-use mathlib.Core.Path.{◌≡◌, sym, ap, ap₂, ◌∙◌, subst}
+use mathlib.Core.Path.{◌≡◌, refl, sym, ap, ap₂, ◌∙◌, subst}
 use mathlib.Core.List.{List, [], ◌∷◌}
 use Prim.Native.Nat.{ℕ, ◌+◌, ◌-◌, ◌*◌, ◌/◌, ◌%◌, ◌^◌, ◌≤◌}
 use native.Mathlib.Nat.{zero-mul, one-mul, add_comm}
 use native.Mathlib.Omega.{arith}
+use Rattle.std.specs.List.{fold as fold_list}
 use lib.Arith.{bin_ind}
 use lib.Pow.{shr-shr, shl-shr}
 use lib.Bits.{bit_xor, xor_comm}
 use Rattle.crc.specs.Inner.Remainders.{rem, Same}
 use Rattle.crc.specs.Inner.Folding.{times, times_low, times_high, with_word}
-use Rattle.crc.proofs.Xor.{Bit, off, on, lowest_bit, xor_swap, xor_scale, xor_parts, mul_swap}
+use Rattle.crc.proofs.Xor.{xor_assoc, Bit, off, on, lowest_bit, xor_swap, xor_scale, xor_parts, mul_swap}
 use Rattle.crc.proofs.Remainders.{same, then, same_xor, same_right, same_shift}
 
 -- ---- a product with a sum of powers
@@ -54,6 +55,22 @@ module _ (m k : ℕ) (ks : List ℕ) (one : rem (2 ^ m) ≡ rem (times k ks 1)) 
       (λ n ih.
       subst Folds (xor_parts 1 n)
       (folds_sum (n / 2 * 2) (n % 2) (folds_double (n / 2) ih) (folds_bit (lowest_bit n))))
+
+-- ---- the words of a product, added power by power
+
+abbrev pub add_low : (a s k : ℕ) → ℕ
+add_low a s k = bit_xor s (a * 2 ^ k % 2 ^ 64)
+
+abbrev pub add_high : (a s k : ℕ) → ℕ
+add_high a s k = bit_xor s (a / 2 ^ (64 - k))
+
+pub low_added : (a s k : ℕ) (ks : List ℕ) → fold_list (add_low a) s (k ∷ ks) ≡ bit_xor s (times_low k ks a)
+low_added a s k [] = refl
+low_added a s k (j ∷ js) = low_added a (add_low a s k) j js ∙ xor_assoc s (a * 2 ^ k % 2 ^ 64) (times_low j js a)
+
+pub high_added : (a s k : ℕ) (ks : List ℕ) → fold_list (add_high a) s (k ∷ ks) ≡ bit_xor s (times_high k ks a)
+high_added a s k [] = refl
+high_added a s k (j ∷ js) = high_added a (add_high a s k) j js ∙ xor_assoc s (a / 2 ^ (64 - k)) (times_high j js a)
 
 -- ---- a product of a word, in two words
 

@@ -10,3 +10,4 @@ pub mod Reading
 pub mod Carrying
 pub mod Overlaying
 pub mod Windowing
+pub mod Steps

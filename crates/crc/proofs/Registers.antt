@@ -4,11 +4,10 @@ use mathlib.Core.List.{List, [], ◌∷◌}
 use Prim.Native.Nat.{ℕ, suc, ◌+◌, ◌-◌, ◌*◌, ◌/◌, ◌%◌, ◌^◌, ◌≤◌, ◌<◌}
 use lib.Pow.{pow_pos}
 use native.Mathlib.Nat.{mul_assoc, mul-one, zero-mul, zero-add, mod-lt}
-use native.Mathlib.Numerals.{add-one}
 use native.Mathlib.Omega.{arith}
 use borrow.Author.Tests.{lt-ltb, le-ltb}
-use lib.ListN.{length, get_or, take, drop, length-drop, drop_of_length-le, take-append-drop}
-use lib.Seq.{drop-cons}
+use lib.ListN.{length, get_or, take, drop, length-drop, take-append-drop}
+use Rattle.std.specs.List.{fold}
 use lib.Bits.{bit_xor, xor_block, xor_comm, xor_lt, xor_zero_r}
 use native.Mathlib.Decide.{dec_lt}
 use Rattle.crc.specs.Crc.{polynomial, times_x, crc_byte, crc}
@@ -141,11 +140,14 @@ crc_of_last n =
         ∙ ap (λ (x : ℕ). x * 65536) (xor_parts 8 n)
 
 -- Five bytes of a polynomial, entered one after the other.
-pub crc_of_five : (n p q r s t : ℕ) → n < 2 ^ 40 → p ≡ crc_byte 0 (n / 256 / 256 / 256 / 256)
-    → q ≡ crc_byte p (n / 256 / 256 / 256 % 256) → r ≡ crc_byte q (n / 256 / 256 % 256) → s ≡ crc_byte r (n / 256 % 256)
-    → t ≡ crc_byte s (n % 256) → t ≡ crc_of n
-crc_of_five n p q r s t h hp hq hr hs ht =
-    rw (ht, hs, hr, hq, hp, first, crc_of_last c, crc_of_last b, crc_of_last a, crc_of_last n)
+pub crc_of_five : (n : ℕ) → n < 2 ^ 40
+    → crc 0 (n / 4294967296 % 256 ∷ n / 16777216 % 256 ∷ n / 65536 % 256 ∷ n / 256 % 256 ∷ n % 256 ∷ []) ≡ crc_of n
+unfolding crc
+crc_of_five n h =
+    let p : n / 65536 ≡ a / 256 = omega arith in
+    let q : n / 16777216 ≡ b / 256 = omega arith in
+    let r : n / 4294967296 ≡ c / 256 = omega arith in
+    rw (p, q, r, first, crc_of_last c, crc_of_last b, crc_of_last a, crc_of_last n) refl
   where
     a : ℕ
     a = n / 256
@@ -156,11 +158,10 @@ crc_of_five n p q r s t h hp hq hr hs ht =
     c : ℕ
     c = b / 256
 
-    first : crc_byte 0 (c / 256) ≡ crc_of (c / 256)
+    first : crc_byte 0 (c / 256 % 256) ≡ crc_of (c / 256)
     first =
         let top : c / 256 / 256 ≡ 0 = omega arith in
-        let low : c / 256 % 256 ≡ c / 256 = omega arith in
-        ap₂ crc_byte (sym (ap crc_of top ∙ crc_of_nil)) (sym low) ∙ crc_of_last (c / 256)
+        ap (λ (x : ℕ). crc_byte x (c / 256 % 256)) (sym (ap crc_of top ∙ crc_of_nil)) ∙ crc_of_last (c / 256)
 
 dividend_of : (n : ℕ) (bs : List ℕ) → dividend (n * 2 ^ 16) bs ≡ followed 8 n bs * 2 ^ 16
 unfolding dividend
@@ -204,15 +205,8 @@ crc_of_register k r s l h hr hs =
         ∙ shift_shift r (8 * k - 16 + m) 16
         ∙ ap (λ (n : ℕ). r * 2 ^ n) bits
 
--- ---- byte by byte
-
--- Entering byte i and then the bytes from i + 1 on leads to the same register as entering all bytes from i on.
-pub crc_more : (r x : ℕ) (xs : List ℕ) (i : ℕ) → i < length xs → x ≡ crc_byte r (get_or xs i 0)
-    → crc x (drop (i + 1) xs) ≡ crc r (drop i xs)
+-- The register after all bytes, as a fold.
+pub crc_fold : (r : ℕ) (bs : List ℕ) → fold crc_byte r bs ≡ crc r bs
 unfolding crc
-crc_more r x xs i h e = rw (e, add-one i, drop-cons xs i 0)
-
--- After the last byte nothing is left to enter, so the register stays as it is.
-pub crc_end : (r : ℕ) (xs : List ℕ) (i : ℕ) → length xs ≤ i → crc r (drop i xs) ≡ r
-unfolding crc
-crc_end r xs i h = rw (drop_of_length-le xs h)
+crc_fold r [] = refl
+crc_fold r (b ∷ bs) = crc_fold (crc_byte r b) bs

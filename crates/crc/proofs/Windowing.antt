@@ -2,20 +2,20 @@
 use mathlib.Core.Path.{◌≡◌, refl, sym, ap, ap₂, ◌∙◌, subst}
 use mathlib.Core.List.{List, [], ◌∷◌, ◌++◌}
 use Prim.Native.Nat.{ℕ, zero, suc, ◌+◌, ◌-◌, ◌*◌, ◌/◌, ◌%◌, ◌^◌, ◌≤◌, ◌<◌}
-use native.Mathlib.Nat.{mul-one, add_comm, zero-add}
+use native.Mathlib.Nat.{mul-one, zero-add}
 use native.Mathlib.Numerals.{add-one}
 use native.Mathlib.Omega.{arith}
-use lib.ListN.{length, get_or, take, drop, set, replicate, length-drop, length-set, take-append-drop}
-use lib.Seq.{drop-cons, drop-drop, take-suc, take-set-le, take-suc-set, drop-set-add, length-take-le, get_or-drop}
-use lib.Seq.{take-length, take-take, get_or-take, drop-set-lt}
+use lib.ListN.{length, get_or, take, drop, set, replicate, length-drop, length-set}
+use lib.Seq.{drop-cons, take-suc, take-set-le, take-suc-set, drop-set-add, length-take-le, get_or-drop}
+use lib.Seq.{take-length, take-take, get_or-take}
 use lib.Bits.{bit_xor, xor_comm, xor_zero_r}
 use Rattle.crc.specs.Division.{followed}
 use Rattle.crc.specs.Inner.Remainders.{rem, rem_bits, reduce, Same}
-use Rattle.crc.specs.Inner.Folding.{with_word, bytes_at, with_register}
+use Rattle.crc.specs.Inner.Folding.{bytes_at, with_register}
 use Rattle.crc.specs.Inner.Windows.{window}
 use Rattle.crc.proofs.Xor.{xor_assoc, xor_swap, xor_past, xor_twice, xor_scale, xor_parts, shift_shift}
 use Rattle.crc.proofs.Remainders.{same, back, then, same_left, same_right, same_shift}
-use Rattle.crc.proofs.Folding.{fold, word_same}
+use Rattle.crc.proofs.Folding.{fold}
 use Rattle.crc.proofs.Pieces.{followed_plus, followed-first, followed-append, followed_last, followed_same}
 use Rattle.crc.proofs.Reading.{read_more, read_one}
 
@@ -124,31 +124,6 @@ all_entered o o₀ s i e h =
 
 -- ---- the window moves to the start
 
--- One more byte of the window is at the start, and the bytes after it are as they were.
-pub byte_moved : (o o₀ : List ℕ) (i n : ℕ) → i < length o → n + i < length o₀ → take i o ≡ take i (drop n o₀)
-    → drop i o ≡ drop i o₀
-    → (take (i + 1) (set o i (get_or o (i + n) 0)) ≡ take (i + 1) (drop n o₀))
-    × (drop (i + 1) (set o i (get_or o (i + n) 0)) ≡ drop (i + 1) o₀)
-byte_moved o o₀ i n h k e f = (
-  rw (add-one, take-suc-set o i (get_or o (i + n) 0) h, take-suc (drop n o₀) i 0 long)
-      (ap₂ (λ (l : List ℕ) (x : ℕ). l ++ x ∷ []) e byte),
-  drop-set-lt (i + 1) o i (get_or o (i + n) 0) (omega arith)
-      ∙ sym (drop-drop 1 i o)
-      ∙ ap (drop 1) f
-      ∙ drop-drop 1 i o₀,
-)
-  where
-    long : i < length (drop n o₀)
-    long = let g : length (drop n o₀) ≡ length o₀ - n = length-drop n o₀ in omega arith
-
-    byte : get_or o (i + n) 0 ≡ get_or (drop n o₀) i 0
-    byte =
-        sym (get_or-drop i o n 0)
-        ∙ ap (λ (l : List ℕ). get_or l n 0) f
-        ∙ get_or-drop i o₀ n 0
-        ∙ ap (λ (m : ℕ). get_or o₀ m 0) (add_comm i n)
-        ∙ sym (get_or-drop n o₀ i 0)
-
 -- Windows with the same bytes stand for the same.
 window_of : (o l : List ℕ) → take 369 o ≡ take 369 l → window o ≡ window l
 unfolding window
@@ -156,23 +131,14 @@ window_of o l e =
     ap₂ (λ (x y : List ℕ). bit_xor (followed 8 0 x) (followed 8 0 y)) e
     (sym (take-take 31 369 o (omega arith)) ∙ ap (take 31) e ∙ take-take 31 369 l (omega arith))
 
--- The first n bytes of the rest went through the window, and it is at the start again.
-pub stride_entered : (n : ℕ) (o o₁ o₂ rest after part : List ℕ) {a : ℕ} → part ≡ take n rest → length part ≡ n
-    → after ≡ drop n rest → Same (window (drop (length part) o₁)) (followed 8 (window o) part)
-    → take 369 o₂ ≡ take 369 (drop n o₁) → Same (followed 8 (window o) rest) a → Same (followed 8 (window o₂) after) a
-stride_entered n o o₁ o₂ rest after part e l f g m h =
-    then (same (ap (followed 8 (window o₂)) f))
-    (then (followed_same 8 (drop n rest) stands)
-    (then
-    (same
-    (sym (followed-append 8 (window o) (take n rest) (drop n rest))
-    ∙ ap (followed 8 (window o)) (take-append-drop n rest)))
-    h))
-  where
-    stands : Same (window o₂) (followed 8 (window o) (take n rest))
-    stands =
-        then (same (window_of o₂ (drop n o₁) m ∙ ap (λ (k : ℕ). window (drop k o₁)) (sym l)))
-        (then g (same (ap (followed 8 (window o)) e)))
+-- The first part of the rest went through the window, and it is at the start again.
+pub stride_entered : (o o₁ o₂ rest after part : List ℕ) {a : ℕ} → rest ≡ part ++ after
+    → Same (window (drop (length part) o₁)) (followed 8 (window o) part)
+    → take 369 o₂ ≡ take 369 (drop (length part) o₁) → Same (followed 8 (window o) rest) a
+    → Same (followed 8 (window o₂) after) a
+stride_entered o o₁ o₂ rest after part e g m h =
+    then (followed_same 8 after (then (same (window_of o₂ (drop (length part) o₁) m)) g))
+    (then (same (sym (ap (followed 8 (window o)) e ∙ followed-append 8 (window o) part after))) h)
 
 -- No byte is left to enter.
 pub none_left : (a : ℕ) {b : ℕ} (rest : List ℕ) → length rest ≡ 0 → Same (followed 8 a rest) b → Same a b
@@ -294,10 +260,8 @@ overlap_all o o₀ i e h =
     ∙ ap (λ (n : ℕ). bit_xor (bytes_at o₀ 0 369) (bytes_at o₀ 0 n * 2 ^ (8 * (31 - n)))) e
     ∙ ap (bit_xor (bytes_at o₀ 0 369)) (mul-one (bytes_at o₀ 0 31))
 
--- The next word of the window is appended.
-pub window_word : (s : List ℕ) (i x w : ℕ) {y : ℕ} → i + 8 ≤ length s → w ≡ bytes_at s i 8 → Same x (bytes_at s 0 i)
-    → Same y (with_word x w) → Same y (bytes_at s 0 (i + 8))
-window_word s i x w h e p q =
-    then q
-    (then (word_same w p)
-    (same (ap (with_word (bytes_at s 0 i)) e ∙ read_more s 0 i i 8 0 (zero-add i) h)))
+-- The first byte and those after it are the window's bytes.
+pub first_then : (o : List ℕ) (n : ℕ) → 0 < length o → followed 8 (get_or o 0 0) (take n (drop 1 o)) ≡ bytes_at o 0 (suc n)
+unfolding followed
+first_then [] n h = absurd (omega arith)
+first_then (b ∷ o) n h = ap (λ (x : ℕ). followed 8 x (take n o)) (sym (xor_zero_r b))

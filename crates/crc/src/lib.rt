@@ -27,11 +27,11 @@ const FRONT_AND_REAR: usize = 512;
 // The first 512 bytes of parts below this length are folded at once. From it on all bytes go through a window.
 const LONG: usize = 1024;
 
-// Six words that may stand for the register and the first bytes of a part, and how many bytes these are.
+// Six words that may stand for the register and the first bytes of a part, and the bytes after those.
 #[derive(Clone, Copy)]
-struct Head {
+struct Head<'a> {
     words: SixWords,
-    taken: usize,
+    rest: &'a [u8],
 }
 
 // Returns the register after these bytes.
@@ -42,51 +42,44 @@ pub fn register(start: u16, bytes: &[u8]) -> u16
         return bytes::enter(start, bytes);
     }
     let head = take_head(start, bytes);
-    let n = head.taken;
-    six_words::finish(head.words, &bytes[n..])
+    six_words::finish(head.words, head.rest)
 }
 
 // Returns six words for the register and the first 8 bytes, the first 512, or all.
-fn take_head(start: u16, bytes: &[u8]) -> Head
+fn take_head(start: u16, bytes: &[u8]) -> Head<'_>
     requires { 8 ≤ length bytes.now }
     ensures { Heads start bytes.now result }
 {
     if bytes.len() < FRONT_AND_REAR {
         return Head {
             words: six_words::only_word(first_word(start, bytes)),
-            taken: 8,
+            rest: &bytes[8..],
         };
     }
     if bytes.len() < LONG {
         return Head {
             words: overlay::fold_front(first_three(start, bytes), bytes),
-            taken: 512,
+            rest: &bytes[512..],
         };
     }
     Head {
         words: window::fold_long(start, bytes),
-        taken: bytes.len(),
+        rest: &[],
     }
 }
 
-// Returns the first eight bytes plus the register times x^48. The factor is 2^48.
+// Returns the first eight bytes plus the register times x^48.
 fn first_word(start: u16, bytes: &[u8]) -> u64
     requires { 8 ≤ length bytes.now }
     ensures { result ≡ with_register start 8 bytes.now }
 {
-    words::word(bytes, 0) ^ (wide16(start) * 281474976710656)
+    words::word(bytes, 0) ^ (u64::from(start) << 48)
 }
 
-// Returns the first three bytes plus the register times x^8. The factor is 2^8.
+// Returns the first three bytes plus the register times x^8.
 fn first_three(start: u16, bytes: &[u8]) -> u64
     requires { 3 ≤ length bytes.now }
     ensures { result ≡ with_register start 3 bytes.now }
 {
-    words::load(bytes, 0, 3) ^ (wide16(start) * 256)
-}
-
-fn wide16(x: u16) -> u64
-    ensures { (result ≡ x) × (result < 65536) }
-{
-    x as u64
+    u64::from_be_bytes([0, 0, 0, 0, 0, bytes[0], bytes[1], bytes[2]]) ^ (u64::from(start) << 8)
 }

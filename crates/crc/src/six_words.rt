@@ -1,16 +1,16 @@
 // Carries six words that have the remainder of all data so far. A word that is appended pushes one out at the top, and
 // that is folded into the two lowest: x^384 has the remainder of x^46 + x^15.
-ghost use Rattle.std.specs.Prelude.{◌≡◌, ◌∷◌, [], ◌+◌, ◌≤◌, ◌<◌, ◌^◌, length};
+ghost use Rattle.std.specs.Prelude.{◌≡◌, List, ◌∷◌, ℕ, ◌<◌, ◌≤◌, ◌^◌, All};
 ghost use Rattle.std.specs.Int.Bits.{bit_xor};
+ghost use Rattle.std.specs.List.{concat};
 ghost use Rattle.crc.specs.Division.{followed};
 ghost use Rattle.crc.specs.Inner.Remainders.{Same};
-ghost use Rattle.crc.specs.Inner.Folding.{times, times_low, times_high, with_word, with_rest, crc_of};
+ghost use Rattle.crc.specs.Inner.Folding.{times_low, times_high, with_word, crc_of};
 ghost use Rattle.crc.specs.Inner.Carried.{value};
 
 use crate::bytes;
-use crate::words::word;
 
-// 384 bits, the word a the highest.
+// 384 bits, the word a the highest. The words are no array, since a step moves each into the next by its name.
 #[derive(Clone, Copy)]
 pub(crate) struct SixWords {
     a: u64,
@@ -44,23 +44,33 @@ pub(crate) fn append_word(x: SixWords, w: u64) -> SixWords
         b: x.c,
         c: x.d,
         d: x.e,
-        e: x.f ^ fold384_high(x.a),
-        f: w ^ fold384_low(x.a),
+        e: x.f ^ high_product(x.a, &[46, 15]),
+        f: w ^ low_product(x.a, &[46, 15]),
     }
 }
 
-// Returns the low word of h (x^46 + x^15).
-fn fold384_low(h: u64) -> u64
-    ensures { result ≡ times_low 46 (15 ∷ []) h }
+// Returns the low word of h times the sum of these powers of x.
+fn low_product(h: u64, powers: &[u32]) -> u64
+    requires { All (λ k. k < 64) powers.now }
+    ensures { (k : ℕ) (ks : List ℕ) → powers.now ≡ k ∷ ks → result ≡ times_low k ks h }
 {
-    (h << 46) ^ (h << 15)
+    let mut sum = 0;
+    for &k in powers {
+        sum ^= h << k;
+    }
+    sum
 }
 
-// Returns the high word of h (x^46 + x^15).
-fn fold384_high(h: u64) -> u64
-    ensures { result ≡ times_high 46 (15 ∷ []) h }
+// Returns the high word of that product.
+fn high_product(h: u64, powers: &[u32]) -> u64
+    requires { All (λ k. (0 < k) × (k ≤ 64)) powers.now }
+    ensures { (k : ℕ) (ks : List ℕ) → powers.now ≡ k ∷ ks → result ≡ times_high k ks h }
 {
-    (h >> 18) ^ (h >> 49)
+    let mut sum = 0;
+    for &k in powers {
+        sum ^= h >> (64 - k);
+    }
+    sum
 }
 
 // Returns x + q x^64 + p.
@@ -82,46 +92,46 @@ pub(crate) fn finish(x: SixWords, s: &[u8]) -> u16
     ensures { result ≡ crc_of (followed 8 (value x) s.now) }
 {
     let mut y = x;
-    let mut i = 0;
-    while s.len() - i >= 48 {
-        y = append_six(y, s, i);
-        i += 48;
+    let (sixes, rest) = s.as_chunks();
+    for six in sixes {
+        y = append_six(y, six);
     }
-    finish_words(y, &s[i..])
+    finish_words(y, rest)
 }
 
-// Appends the six words at i. After six steps each word is in the variable in which it began. One at a time is slower:
-// 504 bytes then take 100 ns in place of 77 on an Intel Xeon.
-fn append_six(x: SixWords, s: &[u8], i: usize) -> SixWords
-    requires { i + 48 ≤ length s.now }
-    ensures { Same (with_rest (value result) s.now (i + 48)) (with_rest (value x) s.now i) }
+// Appends six words. The compiler unrolls the loop over them, and after them each word is in the variable in which it
+// began. One at a time is slower: 511 bytes then take 135 ns in place of 124 on an Intel Xeon.
+fn append_six(x: SixWords, six: &[u8; 48]) -> SixWords
+    ensures { Same (value result) (followed 8 (value x) six.now) }
 {
-    let a = word(s, i);
-    let b = word(s, i + 8);
-    let c = word(s, i + 16);
-    let d = word(s, i + 24);
-    let e = word(s, i + 32);
-    let f = word(s, i + 40);
-    append_word(
-        append_word(
-            append_word(append_word(append_word(append_word(x, a), b), c), d),
-            e,
-        ),
-        f,
-    )
+    let (words, _) = six.as_chunks();
+    append_words(x, words)
+}
+
+// Appends all of these words.
+pub(crate) fn append_words(x: SixWords, words: &[[u8; 8]]) -> SixWords
+    ensures { Same (value result) (followed 8 (value x) (concat words.now)) }
+{
+    let mut y = x;
+    for word in words {
+        y = append_bytes(y, word);
+    }
+    y
+}
+
+// Appends the word of eight bytes.
+fn append_bytes(x: SixWords, word: &[u8; 8]) -> SixWords
+    ensures { Same (value result) (followed 8 (value x) word.now) }
+{
+    append_word(x, u64::from_be_bytes(*word))
 }
 
 // Returns the register after the data in x and then these bytes, a word at a time.
 fn finish_words(x: SixWords, s: &[u8]) -> u16
     ensures { result ≡ crc_of (followed 8 (value x) s.now) }
 {
-    let mut y = x;
-    let mut i = 0;
-    while s.len() - i >= 8 {
-        y = append_word(y, word(s, i));
-        i += 8;
-    }
-    finish_bytes(y, &s[i..])
+    let (words, rest) = s.as_chunks();
+    finish_bytes(append_words(x, words), rest)
 }
 
 // Returns the register after the data in x and then these bytes. It makes five bytes of x and enters all bytes by the
@@ -147,34 +157,13 @@ fn join_six(x: SixWords) -> u64
 fn join_two(h: u64, w: u64) -> u64
     ensures { Same result (with_word h w) }
 {
-    w ^ (fold64_low(fold64_high(h)) ^ fold64_low(h))
-}
-
-// Returns the low word of h (x^28 + x^8 + x).
-fn fold64_low(h: u64) -> u64
-    ensures { result ≡ times_low 28 (8 ∷ 1 ∷ []) h }
-{
-    (h << 28) ^ ((h << 8) ^ (h << 1))
-}
-
-// Returns the high word of h (x^28 + x^8 + x).
-fn fold64_high(h: u64) -> u64
-    ensures { result ≡ times_high 28 (8 ∷ 1 ∷ []) h }
-{
-    (h >> 36) ^ ((h >> 56) ^ (h >> 63))
+    let powers = [28, 8, 1];
+    w ^ (low_product(high_product(h, &powers), &powers) ^ low_product(h, &powers))
 }
 
 // Returns five bytes with the remainder of eight: x^39 has the remainder of x^15 + x^10 + x^7 + 1. The divisor is 2^39.
 fn shorten(w: u64) -> u64
     ensures { (Same result w) × (result < 2 ^ 40) }
 {
-    fold39(w / 549755813888) ^ (w % 549755813888)
-}
-
-// Returns h (x^15 + x^10 + x^7 + 1), with a factor for each power.
-fn fold39(h: u64) -> u64
-    requires { h < 2 ^ 25 }
-    ensures { result ≡ times 15 (10 ∷ 7 ∷ 0 ∷ []) h }
-{
-    (h * 32768) ^ ((h * 1024) ^ ((h * 128) ^ (h * 1)))
+    low_product(w / 549755813888, &[15, 10, 7, 0]) ^ (w % 549755813888)
 }

@@ -1,5 +1,6 @@
 -- These laws are about C structs: conversion to C and back changes nothing, a valid struct converts to a valid key or
 -- session, and the struct of what came from these calls is valid.
+use Rattle.std.specs.Prelude.{Some, None, Ok, Err}
 use mathlib.Core.Path.{◌≡◌, refl, sym}
 use mathlib.Core.Bool.{Bool, true, false, ◌&&◌, ◌||◌}
 use mathlib.Core.List.{List}
@@ -12,10 +13,8 @@ use Rattle.field.specs.declared.Mismatch.{Mismatch}
 use Rattle.field.specs.declared.Tag.{Tag}
 use Rattle.field.specs.declared.Tag.TheVariants.{Guard, Application, Reference}
 use Rattle.key.specs.declared.Key.{Key}
-use Rattle.slot.specs.declared.Slot.{Slot}
-use Rattle.slot.specs.declared.Slot.TheVariants.{Empty, Holding}
-use Rattle.key.specs.declared.Outcome.{Outcome}
-use Rattle.key.specs.declared.Outcome.TheVariants.{Done, Refused}
+use Rattle.slot.specs.Slots.{Slot, error_numbers}
+use Rattle.key.specs.Numbers.{Outcome}
 use Rattle.key.specs.Keys.{with_slot, key_valid, CameFromCalls, KeyValid}
 use Rattle.key.specs.Streams.{stream_length}
 use Rattle.key.proofs.Laws.{came_valid}
@@ -29,7 +28,6 @@ use Rattle.packets.specs.Sessions.{rule_of, session_valid, SessionValid, Session
 use Rattle.packets.proofs.PacketLaws.{valid_told, valid_passes, came_session_valid}
 use Rattle.cstructs.specs.declared.CSignature.{CSignature}
 use Rattle.slot.specs.declared.ErrorNumbers.{ErrorNumbers}
-use Rattle.slot.specs.Slots.{error_numbers}
 use Rattle.cstructs.specs.declared.CKey.{CKey}
 use Rattle.cstructs.specs.declared.CSide.{CSide}
 use Rattle.cstructs.specs.declared.CSession.{CSession}
@@ -53,13 +51,13 @@ flag_passes false = refl
 -- Converting a slot to numbers and back gives it again.
 slot_round : (s : Slot) → slot_from_numbers (error_numbers s) ≡ s
 unfolding error_numbers slot_from_numbers
-slot_round Empty = refl
-slot_round (Holding e) =
+slot_round None = refl
+slot_round (Some e) =
     go e.mismatch.tag e.mismatch.actual e.mismatch.expected e.mismatch.differing e.offset
   where
     go : (t : Tag) (a x d o : ℕ)
         → let m : Mismatch = record { tag = t; actual = a; expected = x; differing = d } in
-        let e : Slot = Holding (record { mismatch = m; offset = o }) in
+        let e : Slot = Some (record { mismatch = m; offset = o }) in
         slot_from_numbers (error_numbers e) ≡ e
     go Guard a x d o = refl
     go Application a x d o = refl
@@ -98,7 +96,7 @@ proper_passes : (s : Slot) → error_valid (error_numbers s) ≡ true
 proper_passes s = rw (slot_round s) (alike_self (error_numbers s))
 
 -- A valid C key that was never configured holds no error.
-none_held : (r : CKey) → configured_or_empty r ≡ true → eqb r.configured 1 ≡ false → slot_from_numbers r.error ≡ Empty
+none_held : (r : CKey) → configured_or_empty r ≡ true → eqb r.configured 1 ≡ false → slot_from_numbers r.error ≡ None
 unfolding slot_from_numbers
 none_held r h never =
     let empty : eqb r.error.error_type 0 ≡ true = rw never at h in
@@ -109,7 +107,7 @@ configured_or_empty_lem : (k : Key) → CameFromCalls k → configured_or_empty 
 unfolding error_numbers
 configured_or_empty_lem k came = go k.configured k.slot came.never
   where
-    go : (b : Bool) (s : Slot) → (b ≡ false → s ≡ Empty) → eqb (flag b) 1 || eqb (error_numbers s).error_type 0 ≡ true
+    go : (b : Bool) (s : Slot) → (b ≡ false → s ≡ None) → eqb (flag b) 1 || eqb (error_numbers s).error_type 0 ≡ true
     go true s never = refl
     go false s never = rw (never refl) refl
 
@@ -119,7 +117,7 @@ pub record KeyTold (r : CKey) : Type 0 where
   pub configured : r.configured ≡ flag (eqb r.configured 1)
   pub signature : r.signature.spare ≡ 0
   pub error : r.error ≡ error_numbers (slot_from_numbers r.error)
-  pub never : (key_from_c r).configured ≡ false → (key_from_c r).slot ≡ Empty
+  pub never : (key_from_c r).configured ≡ false → (key_from_c r).slot ≡ None
   pub key_valid : KeyValid (key_from_c r)
 
 -- If the test `c_key_valid` is true, the properties of a valid C key hold.
@@ -140,6 +138,10 @@ key_told r h =
       key_valid = a.1;
     }
 
+-- A valid C key converts to a valid key.
+pub valid_key : (r : CKey) → c_key_valid r ≡ true → KeyValid (key_from_c r)
+valid_key r h = (key_told r h).key_valid
+
 -- Converting a C signature whose spare number is 0 to a signature and back gives it again.
 signature_back : (s : CSignature) → s.spare ≡ 0 → signature_to_c (signature_from_c s) ≡ s
 signature_back s h = rw (sym h) refl
@@ -152,8 +154,8 @@ key_back r h =
 
 -- A transfer changes nothing of a key but its slot.
 slot_changed : (o : Outcome) (k : Key) (taken written : ℕ) (e : Slot) → let t = transfer_result_by o k taken written e in t.key ≡ with_slot k t.key.slot
-slot_changed Done k taken written e = refl
-slot_changed (Refused r) k taken written e = refl
+slot_changed (Ok tt) k taken written e = refl
+slot_changed (Err r) k taken written e = refl
 
 module _ (k : Key) (memory wire : List ℕ) (offset data_length : ℕ) where
   -- Send changes nothing of a key but its slot.
@@ -231,8 +233,8 @@ unfolding packet_result
 packet_result_session s n bytes = go (packet_answer s n (length bytes)) (fed (rule_of s) s.progress bytes)
   where
     go : (o : Outcome) (p : Progress) → (packet_result_by o s p).session ≡ with_progress s (packet_result_by o s p).session.progress
-    go Done p = refl
-    go (Refused r) p = refl
+    go (Ok tt) p = refl
+    go (Err r) p = refl
 
 -- The C struct of every session from these calls is valid.
 pub session_passes : (s : Session) → SessionFromCalls s → c_session_valid (session_to_c s) ≡ true

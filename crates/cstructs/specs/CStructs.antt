@@ -9,14 +9,12 @@
 --   side_from_c, side_to_c, c_side_valid                positions in a stream
 --   session_from_c, session_to_c, c_session_valid       sessions
 --   unsealed k, no_session k                       what is returned where there is no key or no session
-use Rattle.std.specs.Prelude.{Bool, cond, ◌&&◌, ◌||◌, ℕ, eqb, replicate}
+use Rattle.std.specs.Prelude.{Bool, cond, ◌&&◌, ◌||◌, ℕ, eqb, replicate, Some, None}
 use Rattle.field.specs.declared.Tag.{Tag}
 use Rattle.field.specs.declared.Tag.TheVariants.{Guard, Application, Reference}
 use Rattle.field.specs.Fields.{field_bytes}
-use Rattle.slot.specs.declared.Slot.{Slot}
-use Rattle.slot.specs.declared.Slot.TheVariants.{Empty, Holding}
+use Rattle.slot.specs.Slots.{Slot, guard_error, reference_error, no_error, error_numbers}
 use Rattle.slot.specs.declared.ErrorNumbers.{ErrorNumbers}
-use Rattle.slot.specs.Slots.{guard_error, reference_error, no_error, error_numbers}
 use Rattle.key.specs.declared.Signature.{Signature}
 use Rattle.key.specs.declared.Configuration.{Configuration}
 use Rattle.key.specs.declared.Key.{Key}
@@ -74,8 +72,8 @@ tag_of t = cond (eqb t guard_error) Guard (cond (eqb t reference_error) Referenc
 -- The slot of an error's numbers. Type 0 is an empty one.
 unfoldable pub slot_from_numbers : (n : ErrorNumbers) → Slot
 slot_from_numbers n =
-    cond (eqb n.error_type 0) Empty
-    (Holding (record {
+    cond (eqb n.error_type 0) None
+    (Some (record {
       mismatch = record {
         tag = tag_of n.error_type;
         actual = n.actual;

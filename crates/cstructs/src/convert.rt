@@ -14,25 +14,24 @@ use packets::Session;
 use slot::{Error, ErrorNumbers, GUARD_ERROR, REFERENCE_ERROR, Slot};
 
 // Returns the tag of an error type that is not 0. Types above 3 are taken for the application tag's here, and
-// `error_valid` refuses them.
+// `error_valid` refuses them. It is no `From`, because both types are those of other crates.
 fn tag_of(error_type: u32) -> Tag
     ensures { result ≡ cstructs.tag_of error_type }
 {
-    if error_type == GUARD_ERROR {
-        return Tag::Guard;
+    match error_type {
+        GUARD_ERROR => Tag::Guard,
+        REFERENCE_ERROR => Tag::Reference,
+        _ => Tag::Application,
     }
-    if error_type == REFERENCE_ERROR {
-        return Tag::Reference;
-    }
-    Tag::Application
 }
 
-// Returns the slot that these numbers stand for.
+// Returns the slot that these numbers stand for. It is no `From` either.
+#[tactic(auto, unfolding(crate::specs::CStructs::slot_from_numbers))]
 pub(crate) fn slot_from_numbers(n: ErrorNumbers) -> Slot
     ensures { result ≡ cstructs.slot_from_numbers n }
 {
     if n.error_type == 0 {
-        return Slot::Empty;
+        return None;
     }
     let tag = tag_of(n.error_type);
     let mismatch = Mismatch {
@@ -41,209 +40,219 @@ pub(crate) fn slot_from_numbers(n: ErrorNumbers) -> Slot
         expected: n.expected,
         differing: n.differing,
     };
-    Slot::Holding(Error {
+    Some(Error {
         mismatch,
         offset: n.offset,
     })
 }
 
-// Returns a bool as C sees it.
-pub(crate) fn flag(b: bool) -> u32
-    ensures { result ≡ cstructs.flag b }
-{
-    if b { 1 } else { 0 }
-}
+impl From<CSignature> for Signature {
+    ghost from_gives = { λ s signature. signature ≡ cstructs.signature_from_c s };
 
-pub(crate) fn signature_from_c(s: CSignature) -> Signature
-    ensures { result ≡ cstructs.signature_from_c s }
-{
-    let memory = s.memory;
-    let wire = s.wire;
-    Signature {
-        memory,
-        wire,
-        attribute_flags: s.attribute_flags,
-        check_mask: s.check_mask,
-        copy_mask: s.copy_mask,
+    fn from(s: CSignature) -> Signature {
+        let memory = s.memory;
+        let wire = s.wire;
+        Signature {
+            memory,
+            wire,
+            attribute_flags: s.attribute_flags,
+            check_mask: s.check_mask,
+            copy_mask: s.copy_mask,
+        }
     }
 }
 
-fn signature_to_c(s: Signature) -> CSignature
-    ensures { result ≡ cstructs.signature_to_c s }
-{
-    let memory = s.memory;
-    let wire = s.wire;
-    CSignature {
-        memory,
-        wire,
-        attribute_flags: s.attribute_flags,
-        check_mask: s.check_mask,
-        copy_mask: s.copy_mask,
-        spare: 0,
+impl From<Signature> for CSignature {
+    ghost from_gives = { λ signature s. s ≡ cstructs.signature_to_c signature };
+
+    fn from(s: Signature) -> CSignature {
+        let memory = s.memory;
+        let wire = s.wire;
+        CSignature {
+            memory,
+            wire,
+            attribute_flags: s.attribute_flags,
+            check_mask: s.check_mask,
+            copy_mask: s.copy_mask,
+            spare: 0,
+        }
     }
 }
 
-pub fn configuration_from_c(c: CConfiguration) -> Configuration
-    ensures { result ≡ cstructs.configuration_from_c c }
-{
-    let layout = c.layout;
-    let signature = signature_from_c(c.signature);
-    Configuration { signature, layout }
-}
+impl From<CConfiguration> for Configuration {
+    ghost from_gives = { λ c configuration. configuration ≡ cstructs.configuration_from_c c };
 
-pub fn key_from_c(k: CKey) -> Key
-    ensures { result ≡ cstructs.key_from_c k }
-{
-    let layout = k.layout;
-    let signature = signature_from_c(k.signature);
-    let slot = slot_from_numbers(k.error);
-    Key {
-        configured: k.configured == 1,
-        memory_length: k.memory_length,
-        layout,
-        signature,
-        slot,
+    fn from(c: CConfiguration) -> Configuration {
+        let layout = c.layout;
+        let signature = Signature::from(c.signature);
+        Configuration { signature, layout }
     }
 }
 
-pub fn key_to_c(k: Key) -> CKey
-    ensures { result ≡ cstructs.key_to_c k }
-{
-    let layout = k.layout;
-    let signature = signature_to_c(k.signature);
-    let slot = k.slot;
-    let error = slot::error_numbers(slot);
-    CKey {
-        seal: KEY_SEAL,
-        memory_length: k.memory_length,
-        layout,
-        signature,
-        configured: flag(k.configured),
-        error,
+impl From<CKey> for Key {
+    ghost from_gives = { λ c key. key ≡ cstructs.key_from_c c };
+
+    fn from(k: CKey) -> Key {
+        let layout = k.layout;
+        let signature = Signature::from(k.signature);
+        let slot = slot_from_numbers(k.error);
+        Key {
+            configured: k.configured == 1,
+            memory_length: k.memory_length,
+            layout,
+            signature,
+            slot,
+        }
     }
 }
 
-// Returns the struct with another error. A transfer changes nothing else, and converting the whole key back would copy
-// it again.
-pub fn with_slot(key: CKey, slot: Slot) -> CKey
-    requires { cstructs.key_to_c (cstructs.key_from_c key) ≡ key }
-    ensures { result ≡ cstructs.key_to_c (with_slot (cstructs.key_from_c key) slot) }
-{
-    let error = slot::error_numbers(slot);
-    let mut k = key;
-    k.error = error;
-    k
-}
+impl From<Key> for CKey {
+    ghost from_gives = { λ key c. c ≡ cstructs.key_to_c key };
 
-// Returns the struct without its seal, so that no call takes it for a key.
-pub fn unsealed(key: CKey) -> CKey
-    ensures { result ≡ cstructs.unsealed key }
-{
-    let mut k = key;
-    k.seal = 0;
-    k
-}
-
-fn side_from_c(s: CSide) -> Side
-    ensures { result ≡ cstructs.side_from_c s }
-{
-    let guard = RunningGuard {
-        value: s.guard,
-        odd: s.odd == 1,
-    };
-    Side {
-        index: s.index,
-        at: s.at,
-        guard,
+    fn from(k: Key) -> CKey {
+        let layout = k.layout;
+        let signature = CSignature::from(k.signature);
+        let error = ErrorNumbers::from(k.slot);
+        CKey {
+            seal: KEY_SEAL,
+            memory_length: k.memory_length,
+            layout,
+            signature,
+            configured: u32::from(k.configured),
+            error,
+        }
     }
 }
 
-fn side_to_c(s: Side) -> CSide
-    ensures { result ≡ cstructs.side_to_c s }
-{
-    let guard = s.guard;
-    CSide {
-        index: s.index,
-        at: s.at,
-        odd: flag(guard.odd),
-        guard: guard.value,
-        spare: 0,
+impl CKey {
+    // Returns the struct with another error. A transfer changes nothing else, and converting the whole key back would
+    // copy it again.
+    pub fn with_slot(mut self, slot: Slot) -> Self
+        requires { cstructs.key_to_c (cstructs.key_from_c self) ≡ self }
+        ensures { result ≡ cstructs.key_to_c (with_slot (cstructs.key_from_c self) slot) }
+    {
+        self.error = ErrorNumbers::from(slot);
+        self
+    }
+
+    // Returns the struct without its seal, so that no call takes it for a key.
+    pub fn unsealed(mut self) -> Self
+        ensures { result ≡ cstructs.unsealed self }
+    {
+        self.seal = 0;
+        self
     }
 }
 
-pub fn session_from_c(s: CSession) -> Session
-    ensures { result ≡ cstructs.session_from_c s }
-{
-    let key = key_from_c(s.key);
-    let offset = LayoutOffset::new(s.offset);
-    let held = s.held;
-    let slot = slot_from_numbers(s.error);
-    let input = side_from_c(s.input);
-    let output = side_from_c(s.output);
-    let progress = Progress {
-        input,
-        output,
-        held,
-        slot,
-    };
-    Session {
-        key,
-        offset,
-        data_length: s.data_length,
-        progress,
+impl From<CSide> for Side {
+    ghost from_gives = { λ s side. side ≡ cstructs.side_from_c s };
+
+    fn from(s: CSide) -> Side {
+        let guard = RunningGuard {
+            value: s.guard,
+            odd: s.odd == 1,
+        };
+        Side {
+            index: s.index,
+            at: s.at,
+            guard,
+        }
     }
 }
 
-// Returns the struct with another progress, which is all that a packet changes.
-pub fn with_progress(session: CSession, progress: Progress) -> CSession
-    requires { cstructs.session_to_c (cstructs.session_from_c session) ≡ session }
-    ensures { result ≡ cstructs.session_to_c (with_progress (cstructs.session_from_c session) progress) }
-{
-    let held = progress.held;
-    let slot = progress.slot;
-    let error = slot::error_numbers(slot);
-    let input = side_to_c(progress.input);
-    let output = side_to_c(progress.output);
-    let mut s = session;
-    s.input = input;
-    s.output = output;
-    s.error = error;
-    s.held = held;
-    s
-}
+impl From<Side> for CSide {
+    ghost from_gives = { λ side s. s ≡ cstructs.side_to_c side };
 
-// Returns a struct without a seal, so that no call takes it for a session.
-pub fn no_session(key: CKey) -> CSession
-    ensures { result ≡ cstructs.no_session key }
-{
-    let side = CSide {
-        index: 0,
-        at: 0,
-        odd: 0,
-        guard: 0,
-        spare: 0,
-    };
-    CSession {
-        seal: 0,
-        key,
-        offset: 0,
-        data_length: 0,
-        input: side,
-        output: side,
-        error: slot::no_error(),
-        held: [0; FIELD_SIZE],
-        spare: 0,
+    fn from(s: Side) -> CSide {
+        let guard = s.guard;
+        CSide {
+            index: s.index,
+            at: s.at,
+            odd: u32::from(guard.odd),
+            guard: guard.value,
+            spare: 0,
+        }
     }
 }
 
-pub fn session_to_c(session: Session) -> CSession
-    ensures { result ≡ cstructs.session_to_c session }
-{
-    let offset = session.offset;
-    let progress = session.progress;
-    let mut s = no_session(key_to_c(session.key));
-    s.seal = SESSION_SEAL;
-    s.offset = offset.number();
-    s.data_length = session.data_length;
-    with_progress(s, progress)
+impl From<CSession> for Session {
+    ghost from_gives = { λ s session. session ≡ cstructs.session_from_c s };
+
+    fn from(s: CSession) -> Session {
+        let key = Key::from(s.key);
+        let offset = LayoutOffset::new(s.offset);
+        let held = s.held;
+        let slot = slot_from_numbers(s.error);
+        let input = Side::from(s.input);
+        let output = Side::from(s.output);
+        let progress = Progress {
+            input,
+            output,
+            held,
+            slot,
+        };
+        Session {
+            key,
+            offset,
+            data_length: s.data_length,
+            progress,
+        }
+    }
+}
+
+impl From<Session> for CSession {
+    ghost from_gives = { λ session s. s ≡ cstructs.session_to_c session };
+
+    fn from(session: Session) -> CSession {
+        let offset = session.offset;
+        let progress = session.progress;
+        let key = CKey::from(session.key);
+        let held = progress.held;
+        let error = ErrorNumbers::from(progress.slot);
+        let input = CSide::from(progress.input);
+        let output = CSide::from(progress.output);
+        CSession {
+            seal: SESSION_SEAL,
+            key,
+            offset: offset.number(),
+            data_length: session.data_length,
+            input,
+            output,
+            error,
+            held,
+            spare: 0,
+        }
+    }
+}
+
+impl CSession {
+    // Returns the struct with another progress, which is all that a packet changes.
+    pub fn with_progress(mut self, progress: Progress) -> Self
+        requires { cstructs.session_to_c (cstructs.session_from_c self) ≡ self }
+        ensures { result ≡ cstructs.session_to_c (with_progress (cstructs.session_from_c self) progress) }
+    {
+        let held = progress.held;
+        self.input = CSide::from(progress.input);
+        self.output = CSide::from(progress.output);
+        self.error = ErrorNumbers::from(progress.slot);
+        self.held = held;
+        self
+    }
+
+    // Returns a struct without a seal, so that no call takes it for a session.
+    pub fn none(key: CKey) -> Self
+        ensures { result ≡ cstructs.no_session key }
+    {
+        CSession {
+            seal: 0,
+            key,
+            offset: 0,
+            data_length: 0,
+            input: CSide::default(),
+            output: CSide::default(),
+            error: ErrorNumbers::default(),
+            held: [0; FIELD_SIZE],
+            spare: 0,
+        }
+    }
 }

@@ -5,20 +5,16 @@
 mod convert;
 mod validate;
 
-pub use convert::{
-    configuration_from_c, key_from_c, key_to_c, no_session, session_from_c, session_to_c, unsealed,
-    with_progress, with_slot,
-};
 use field::{Domain, FIELD_SIZE};
 use layout::Layout;
 use slot::ErrorNumbers;
-pub use validate::{c_key_valid, c_session_valid, c_session_valid_given_key};
 
 // The first words of a key and of a session. The lowest byte is the version of the structs.
 pub(crate) const KEY_SEAL: u64 = 0x4741524F4B455904;
 
 pub(crate) const SESSION_SEAL: u64 = 0x4741524F53455304;
 
+// Each struct stands beside that of a crate below, because C sees its seal, flags and spare numbers.
 #[repr(C)]
 #[derive(Clone, Copy)]
 pub struct CSignature {
@@ -50,7 +46,7 @@ pub struct CKey {
 
 // The position in a stream: the number of the current block, the offset in its unit, and the running guard.
 #[repr(C)]
-#[derive(Clone, Copy)]
+#[derive(Clone, Copy, Default)]
 pub struct CSide {
     pub index: u64,
     pub at: u64,

@@ -3,63 +3,40 @@
 
 #![tactic(auto)]
 
-mod reading;
+mod input;
 
-use reading::Input;
-use std::io;
-use std::io::Read;
-use wirecheck::Answer;
+use key::Refusal;
+use slot::ErrorNumbers;
+use std::{fmt, io};
 
+// The program uses no heap, so its input goes into a buffer of fixed size.
 const BUFFER_SIZE: usize = 65536;
 
-// Prints a space and a number.
-fn print_spaced(rt: &impl Print, n: u64) -> io::Result<()> {
-    print!(rt; " {n}")
-}
+const MEMORY_SIZE: usize = 32768;
 
-// Prints the answer and a line end.
-fn print(rt: &impl Print, answer: Answer) -> io::Result<()> {
-    match answer {
-        Answer::Refused(n) => {
-            print!(rt; "refused")?;
-            print_spaced(rt, n as u64)?;
-        }
-        Answer::Found(f) => {
-            print!(rt; "{}", f.error_type)?;
-            print_spaced(rt, f.actual as u64)?;
-            print_spaced(rt, f.expected as u64)?;
-            print_spaced(rt, f.offset as u64)?;
-            print_spaced(rt, f.differing as u64)?;
+// An answer as difcheck prints it.
+#[derive(Drop)]
+struct Printed(Result<ErrorNumbers, Refusal>);
+
+impl fmt::Display for Printed {
+    fn fmt<W: fmt::Write>(&self, f: &mut fmt::Formatter<W>) -> fmt::Result {
+        match self.0 {
+            Err(refusal) => write!(f, "refused {}", u32::from(refusal)),
+            Ok(error) => write!(
+                f,
+                "{} {} {} {} {}",
+                error.error_type, error.actual, error.expected, error.offset, error.differing
+            ),
         }
     }
-    println!(rt; "")
-}
-
-fn print_unreadable(rt: &impl Print) -> io::Result<()> {
-    println!(rt; "standard input can't be read")
-}
-
-// Tries to read one more byte if the first n bytes filled the buffer. If they did not, the input has ended.
-fn read_one_more(from: &mut impl Read, n: usize) -> Input {
-    if n < BUFFER_SIZE {
-        return Input::Bytes(0);
-    }
-    let mut next = [0u8; 1];
-    reading::read_all(from, &mut next)
 }
 
 fn main(rt: HostRuntime) -> io::Result<()> {
-    let mut stdin = rt.stdin();
     let mut buffer = [0u8; BUFFER_SIZE];
-    let input = reading::read_all(&mut stdin, &mut buffer);
-    let Input::Bytes(n) = input else {
-        return print_unreadable(&rt);
+    let Ok((n, has_more)) = input::read_input(&mut rt.stdin(), &mut buffer) else {
+        return println!(rt; "standard input can't be read");
     };
-    let after = read_one_more(&mut stdin, n);
-    let Input::Bytes(more) = after else {
-        return print_unreadable(&rt);
-    };
-    let mut memory = [0u8; 32768];
-    let answer = wirecheck::check_wire(&buffer[0..n], 0 < more, &mut memory);
-    print(&rt, answer)
+    let mut memory = [0u8; MEMORY_SIZE];
+    let answer = wirecheck::check_wire(&buffer[..n], has_more, &mut memory);
+    println!(rt; "{}", Printed(answer))
 }

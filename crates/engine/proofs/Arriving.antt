@@ -17,7 +17,7 @@ use Rattle.guard.proofs.Laws.{advanced-append}
 use Rattle.field.specs.declared.Domain.{Domain}
 use Rattle.field.specs.Domains.{signed}
 use Rattle.field.specs.Fields.{field_of}
-use Rattle.slot.specs.declared.Slot.{Slot}
+use Rattle.slot.specs.Slots.{Slot}
 use Rattle.slot.proofs.Laws.{keep_none}
 use Rattle.engine.specs.declared.Rule.{Rule}
 use Rattle.engine.specs.declared.Progress.{Progress}

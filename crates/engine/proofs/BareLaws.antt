@@ -2,7 +2,7 @@
 use mathlib.Core.Path.{◌≡◌, refl, sym, ap, ◌∙◌}
 use mathlib.Core.Bool.{true}
 use mathlib.Core.List.{List, [], ◌∷◌, ◌++◌}
-use Prim.Native.Nat.{ℕ, suc, ◌+◌, ◌^◌, ◌≤◌, ◌<◌}
+use Prim.Native.Nat.{ℕ, suc, ◌+◌, ◌^◌, ◌≤◌}
 use native.Mathlib.Omega.{arith}
 use lib.Dec.{ltb}
 use lib.ListN.{length}
@@ -11,14 +11,14 @@ use Rattle.slot.specs.Slots.{keep}
 use Rattle.slot.proofs.Laws.{keep_none}
 use Rattle.layout.specs.declared.Layout.{Layout}
 use Rattle.layout.specs.declared.cursor.Cursor.{Cursor}
-use Rattle.layout.specs.Inner.Cursors.{ahead, InLayout, Stored}
+use Rattle.layout.specs.Inner.Cursors.{ahead, Stored}
 use Rattle.layout.proofs.CursorLaws.{stored_nothing}
 use Rattle.engine.specs.declared.Rule.{Rule}
 use Rattle.engine.specs.declared.Progress.{Progress}
 use Rattle.engine.specs.Streams.{block_size, field_size, in_block, in_unit}
 use Rattle.engine.specs.Transfers.{error_by}
 use Rattle.engine.specs.Feeding.{side_at, arrived, whole, error_due, settled, placed, shown, fed, emitted}
-use Rattle.engine.specs.Inner.Parts.{InStep, Room, Feeds, Unsigned, Countable}
+use Rattle.engine.specs.Inner.Parts.{Feedable, Feeds, Unsigned, Countable}
 use Rattle.engine.proofs.PartLaws.{countable}
 
 -- `moved r p n` is the progress n units of one byte further on.
@@ -83,24 +83,29 @@ module _ (r : Rule) (b : Unsigned r) where
   bare_emitted p h [] = refl
   bare_emitted p h (x ∷ xs) = rw (one_shown p h x, one_byte p h x, bare_emitted (moved r p 1) refl xs)
 
-  module _ (p : Progress) (l : Layout) (c : Cursor) (before bytes : List ℕ) (s : InStep r p) (k : p.input.at < in_unit r) where
+  -- In these laws the bytes meet the precondition of feeding.
+  module _ (p : Progress) (l : Layout) (c : Cursor) (before bytes : List ℕ) (f : Feedable r p l c (length before) bytes) where
     -- A unit of one byte that is not whole is at its start.
     at_start : p.input.at ≡ 0
-    at_start = omega (arith, one_unit)
+    at_start = omega (arith, one_unit, f.begun)
 
-    -- If there is room for the output of the bytes, there is room for the bytes, and they can be counted.
-    pub bare_room : (m : ℕ) → Room r p l c m (length (emitted r p bytes)) → (length bytes ≤ length (ahead l c)) × Countable r p × (length bytes ≤ 2 ^ 26)
-    bare_room m R =
+    -- There is room for the bytes.
+    pub bare_room : length bytes ≤ length (ahead l c)
+    bare_room = omega (arith, f.room.fits, ap length (bare_emitted p at_start bytes))
+
+    -- The bytes can be counted.
+    pub bare_small : Countable r p × (length bytes ≤ 2 ^ 26)
+    bare_small =
         let e = ap length (bare_emitted p at_start bytes) in
-        (omega (arith, R.fits), countable r p s (omega (arith, R.small)), omega (arith, R.fits, R.small))
+        (countable r p f.in_step (omega (arith, f.room.small)), omega (arith, f.room.fits, f.room.small))
 
     -- Feeding no bytes changes nothing.
-    pub bare_none : length bytes ≡ 0 → InLayout l c → Feeds r p l c before bytes (record { progress = p; cursor = c }) before
+    pub bare_none : length bytes ≡ 0 → Feeds r p l c before bytes (record { progress = p; cursor = c }) before
     unfolding fed emitted
-    bare_none e t = go bytes e
+    bare_none e = go bytes e
       where
         go : (ys : List ℕ) → length ys ≡ 0 → Feeds r p l c before ys (record { progress = p; cursor = c }) before
-        go [] z = record { progress = refl; stored = stored_nothing l c before t }
+        go [] z = record { progress = refl; stored = stored_nothing l c before f.room.stands }
         go (y ∷ ys) z = absurd (omega arith)
 
     -- Storing the bytes and moving the progress past them is feeding them.

@@ -9,7 +9,7 @@ use lib.Seq.{length-take-le}
 use borrow.Author.Tests.{lt-ltb, le-ltb}
 use Rattle.layout.specs.declared.Layout.{Layout}
 use Rattle.layout.specs.declared.cursor.Cursor.{Cursor}
-use Rattle.slot.specs.declared.Slot.{Slot}
+use Rattle.slot.specs.Slots.{Slot}
 use Rattle.layout.specs.Pieces.{total}
 use Rattle.layout.specs.Moves.{Placed}
 use Rattle.layout.specs.Inner.Cursors.{ahead, InLayout, Walked, Stored, Storing}

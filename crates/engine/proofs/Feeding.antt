@@ -7,7 +7,7 @@ use native.Mathlib.Omega.{arith}
 use lib.ListN.{length, length-append}
 use lib.Seq.{take-nil}
 use Rattle.guard.specs.Guards.{Bytes}
-use Rattle.slot.specs.declared.Slot.{Slot}
+use Rattle.slot.specs.Slots.{Slot}
 use Rattle.engine.specs.declared.Rule.{Rule}
 use Rattle.engine.specs.declared.Progress.{Progress}
 use Rattle.engine.specs.Streams.{in_block, in_unit}

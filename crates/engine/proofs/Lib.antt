@@ -7,3 +7,4 @@ pub mod Feeding
 pub mod PartLaws
 pub mod FeedLaws
 pub mod BareLaws
+pub mod Held

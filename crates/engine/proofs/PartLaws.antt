@@ -7,8 +7,8 @@ use native.Mathlib.Nat.{suc-mul, mul-add, mul-le-mul_left}
 use native.Mathlib.Numerals.{add-one}
 use native.Mathlib.Omega.{arith}
 use lib.Dec.{ltb}
-use lib.ListN.{length, get_or, drop, set, drop_of_length-le}
-use lib.Seq.{sets, drop-cons, length-sets}
+use lib.ListN.{length}
+use lib.Seq.{length-sets}
 use borrow.Author.Tests.{lt-ltb, le-ltb, eq-eqb, ne_eqb, eqb-true, eqb-false}
 use Rattle.guard.specs.declared.RunningGuard.{RunningGuard}
 use Rattle.guard.specs.Guards.{stepped, advanced}
@@ -25,7 +25,7 @@ use Rattle.engine.specs.declared.Progress.{Progress}
 use Rattle.engine.specs.Streams.{field_size, in_block, in_unit, out_unit}
 use Rattle.engine.specs.Feeding.{checks_guard, makes_guard, side_after, arrived, whole, field_made, field_due, next_unit, settled, placed, shown, fed, emitted}
 use Rattle.engine.specs.Positions.{taken, written}
-use Rattle.engine.specs.Inner.Parts.{stream_limit, side_taken, data_taken, field_taken, InStep, Countable, Room, Settled}
+use Rattle.engine.specs.Inner.Parts.{stream_limit, side_taken, data_taken, field_taken, InStep, Countable, Settled}
 use Rattle.engine.proofs.Arriving.{field_small}
 
 -- A guard after b and then xs is the guard after b ∷ xs.
@@ -210,19 +210,6 @@ taken-arrived r p b = go (ltb p.input.at (in_block r)) refl
     go true e = rw e (omega arith)
     go false e = rw e (omega arith)
 
--- ---- bytes held one by one
-
--- Storing byte i of a part and then the bytes from i + 1 on is storing all bytes from i on.
-pub sets_more : (all part : List ℕ) (from i : ℕ) → i < length part
-    → sets (set all (from + i) (get_or part i 0)) (from + (i + 1)) (drop (i + 1) part) ≡ sets all (from + i) (drop i part)
-sets_more all part from i h =
-    let e : from + (i + 1) ≡ suc (from + i) = omega arith in
-    rw (e, add-one i, drop-cons part i 0 h)
-
--- After the last byte of a part nothing is left to store.
-pub sets_end : (all part : List ℕ) (from i : ℕ) → length part ≤ i → sets all (from + i) (drop i part) ≡ all
-sets_end all part from i h = rw (drop_of_length-le part h)
-
 -- ---- bounds
 
 -- The number of bytes written bounds the number of units and the input offset of the current one, because an input unit
@@ -238,22 +225,16 @@ countable r p s h =
 
 module _ (r : Rule) (p : Progress) (l : Layout) (c : Cursor) (before : List ℕ) where
   -- If the unit is not whole, nothing is stored, and the progress stays as it is.
-  pub settled-partial : (u : ℕ) → u ≡ in_unit r → (p.input.at ≡ u → ⊥) → InLayout l c → Settled r p l c before (record { progress = p; cursor = c }) before
+  pub settled_partial : (u : ℕ) → u ≡ in_unit r → (p.input.at ≡ u → ⊥) → InLayout l c → Settled r p l c before (record { progress = p; cursor = c }) before
   unfolding settled
-  settled-partial u e n s =
+  settled_partial u e n s =
       let w : whole r p ≡ false = ne_eqb p.input.at (in_unit r) (λ s. n (s ∙ sym e)) in
       record { progress = rw w; stored = rw w (stored_nothing l c before s) }
 
   -- If the unit is whole, closing it stores its output field and starts the next unit.
-  pub settled-whole : (u : ℕ) → u ≡ in_unit r → p.input.at ≡ u → (q : Progress) (d : Cursor) (after : List ℕ) → q ≡ next_unit r p
+  pub settled_whole : (u : ℕ) → u ≡ in_unit r → p.input.at ≡ u → (q : Progress) (d : Cursor) (after : List ℕ) → q ≡ next_unit r p
       → Stored l c before (field_due r p) d after → Settled r p l c before (record { progress = q; cursor = d }) after
   unfolding settled
-  settled-whole u e n q d after eq s =
+  settled_whole u e n q d after eq s =
       let w : whole r p ≡ true = eq-eqb p.input.at (in_unit r) (n ∙ e) in
       record { progress = rw w eq; stored = rw w s }
-
-  -- If the unit is whole, room for what closing it stores is room for its output field.
-  pub room_due : (u memory : ℕ) → u ≡ in_unit r → p.input.at ≡ u → Room r p l c memory (length (placed r p)) → Room r p l c memory (length (field_due r p))
-  room_due u memory e n m =
-      let w : whole r p ≡ true = eq-eqb p.input.at (in_unit r) (n ∙ e) in
-      rw w at m

@@ -19,8 +19,7 @@ use Rattle.field.specs.Fields.{bytes_of, field_of, computed_field}
 use Rattle.field.specs.Judging.{judged}
 use Rattle.field.specs.Output.{output_field}
 use Rattle.field.proofs.Laws.{unchecked, uncopied}
-use Rattle.slot.specs.declared.Slot.{Slot}
-use Rattle.slot.specs.Slots.{keep}
+use Rattle.slot.specs.Slots.{Slot, keep}
 use Rattle.slot.proofs.Laws.{keep-first}
 use Rattle.engine.specs.declared.Rule.{Rule}
 use Rattle.engine.specs.declared.Progress.{Progress}

@@ -1,4 +1,5 @@
 -- Laws about the transfer rule unit by unit: a unit's output and its error depend only on the bytes up to its end.
+use Rattle.std.specs.Prelude.{None}
 use mathlib.Core.Path.{◌≡◌, refl, ◌∙◌}
 use mathlib.Core.List.{List, [], ◌++◌, append_assoc, append-nil}
 use Prim.Native.Nat.{ℕ, suc, ◌+◌, ◌*◌, ◌≤◌, ◌<◌}
@@ -6,7 +7,6 @@ use native.Mathlib.Nat.{suc-mul, zero-add, mul-le-mul_right}
 use native.Mathlib.Omega.{arith}
 use lib.ListN.{length, drop, length-drop}
 use lib.Seq.{length-take-le}
-use Rattle.slot.specs.declared.Slot.TheVariants.{Empty}
 use Rattle.slot.specs.Slots.{keep}
 use Rattle.slot.proofs.Laws.{keep_none, keep-first}
 use Rattle.engine.specs.declared.Rule.{Rule}
@@ -49,7 +49,7 @@ module _ (r : Rule) where
   pub errors_first : (xs ys : List ℕ) (n : ℕ) → n * in_unit r ≤ length xs → first_error r (xs ++ ys) n ≡ first_error r xs n
   unfolding first_error
   errors_first xs ys n h =
-      joined_same keep Empty (error_of r (xs ++ ys)) (error_of r xs) 0 n
+      joined_same keep None (error_of r (xs ++ ys)) (error_of r xs) 0 n
       (λ k a b. error_first xs ys k (omega (arith, unit_within k n (in_unit r) (omega arith))))
 
   -- The output of n + 1 units is that of the first n units, and then that of unit n.
@@ -59,7 +59,7 @@ module _ (r : Rule) where
   -- The first error of n + 1 units is that of the first n units or, if they have none, that of unit n.
   pub errors_last : (xs : List ℕ) (n : ℕ) → first_error r xs (suc n) ≡ keep (first_error r xs n) (error_of r xs n)
   unfolding first_error
-  errors_last xs n = joined_last keep Empty (λ a. refl) keep_none keep-first (error_of r xs) 0 n ∙ rw (zero-add n)
+  errors_last xs n = joined_last keep None (λ a. refl) keep_none keep-first (error_of r xs) 0 n ∙ rw (zero-add n)
 
   module _ (stream : List ℕ) (n : ℕ) (same : out_block r ≡ in_block r) (h : n * in_unit r ≤ length stream) where
     -- Each of n units that have come has a whole block.

@@ -19,8 +19,7 @@ use Rattle.field.specs.declared.Domain.{Domain}
 use Rattle.field.specs.Domains.{signed}
 use Rattle.field.specs.Fields.{lowest_guard_bit, bytes_of, field_of, computed_field}
 use Rattle.field.specs.Output.{output_field}
-use Rattle.slot.specs.declared.Slot.{Slot}
-use Rattle.slot.specs.Slots.{keep}
+use Rattle.slot.specs.Slots.{Slot, keep}
 use Rattle.engine.specs.declared.Rule.{Rule}
 use Rattle.engine.specs.declared.Side.{Side}
 use Rattle.engine.specs.declared.Progress.{Progress}

@@ -12,18 +12,15 @@
 --   error_by r i guard found          the error of input block i, given its guard and its field
 --   error_of r stream i               the error of input block i of the stream
 --   first_error r stream n            the first error of the first n blocks
-use Rattle.std.specs.Prelude.{List, [], ◌++◌, cond, ℕ, zero, suc, ◌*◌, take, drop}
+use Rattle.field.specs.declared.Mismatch.{Mismatch}
+use Rattle.std.specs.Prelude.{List, [], ◌++◌, cond, ℕ, zero, suc, ◌*◌, take, drop, Option, Some, None}
 use Rattle.guard.specs.Guards.{guard_of}
 use Rattle.field.specs.declared.Domain.{Domain}
-use Rattle.field.specs.declared.Judgement.{Judgement}
-use Rattle.field.specs.declared.Judgement.TheVariants.{Good, Bad}
 use Rattle.field.specs.Domains.{signed}
 use Rattle.field.specs.Fields.{bytes_of, field_of, computed_field}
 use Rattle.field.specs.Judging.{judged}
 use Rattle.field.specs.Output.{output_field}
-use Rattle.slot.specs.declared.Slot.{Slot}
-use Rattle.slot.specs.declared.Slot.TheVariants.{Empty, Holding}
-use Rattle.slot.specs.Slots.{keep}
+use Rattle.slot.specs.Slots.{Slot, keep}
 use Rattle.engine.specs.declared.Rule.{Rule}
 use Rattle.engine.specs.Streams.{in_unit, out_block, input_block, input_field}
 
@@ -66,15 +63,15 @@ output_stream r stream n m = joined ◌++◌ [] (output_unit r stream n) 0 m
 -- ---- the first error
 
 -- A judgement of the block whose data begins at this offset of the input stream, as the slot holds it.
-unfoldable pub slot_of : (offset : ℕ) (judgement : Judgement) → Slot
-slot_of offset Good = Empty
-slot_of offset (Bad m) = Holding (record { mismatch = m; offset = offset })
+unfoldable pub slot_of : (offset : ℕ) (judgement : Option Mismatch) → Slot
+slot_of offset None = None
+slot_of offset (Some m) = Some (record { mismatch = m; offset = offset })
 
 -- The error of input block i, given the guard of its data and the field after it. With no input signature nothing is
 -- checked.
 unfoldable pub error_by : (r : Rule) (i guard : ℕ) (found : List ℕ) → Slot
 error_by r i g found =
-    cond (signed r.input) (slot_of (i * in_unit r) (judged r.input r.check_mask i g (field_of found))) Empty
+    cond (signed r.input) (slot_of (i * in_unit r) (judged r.input r.check_mask i g (field_of found))) None
 
 -- The error of input block i of the stream, or none.
 abbrev pub error_of : (r : Rule) (stream : List ℕ) (i : ℕ) → Slot
@@ -82,4 +79,4 @@ error_of r stream i = error_by r i (guard_by r.input (input_block r stream i)) (
 
 -- The first error of the first n blocks, or none.
 unfoldable pub first_error : (r : Rule) (stream : List ℕ) (n : ℕ) → Slot
-first_error r stream n = joined keep Empty (error_of r stream) 0 n
+first_error r stream n = joined keep None (error_of r stream) 0 n

@@ -11,12 +11,10 @@ mod unit;
 use field::{Domain, FIELD_SIZE};
 use guard::RunningGuard;
 use layout::Cursor;
-pub use sides::{taken, written};
 use slot::Slot;
-pub use stream::{feed, in_step};
 
 // The settings of a transfer. The copy mask is the one in force, configured or automatic.
-#[derive(Clone, Copy)]
+#[derive(Clone, Copy, Debug, PartialEq, Eq)]
 pub struct Rule {
     pub input: Domain,
     pub output: Domain,
@@ -33,7 +31,7 @@ pub struct Side {
 }
 
 // A transfer in progress. The field bytes of the current input unit are held until the unit is whole; data bytes are
-// stored at once.
+// stored at once. C sees the held bytes as eight, and `input.at` says how many have come.
 #[derive(Clone, Copy)]
 pub struct Progress {
     pub input: Side,
@@ -52,14 +50,16 @@ pub struct FeedResult {
 ghost use Rattle.std.specs.Prelude.{◌≡◌};
 ghost use Rattle.engine.specs.Feeding.{begun};
 
-// Returns the progress before the first byte.
-pub fn begin(rule: Rule, slot: Slot) -> Progress
-    ensures { result ≡ begun rule slot }
-{
-    Progress {
-        input: sides::block_start(rule.input, 0),
-        output: sides::block_start(rule.output, 0),
-        held: [0, 0, 0, 0, 0, 0, 0, 0],
-        slot,
+impl Rule {
+    // Returns the progress before the first byte.
+    pub fn begin(self, slot: Slot) -> Progress
+        ensures { result ≡ begun self slot }
+    {
+        Progress {
+            input: sides::block_start(self.input, 0),
+            output: sides::block_start(self.output, 0),
+            held: [0, 0, 0, 0, 0, 0, 0, 0],
+            slot,
+        }
     }
 }

@@ -1,5 +1,5 @@
 // This module has the two sides of a transfer: their block and unit sizes, and their running guards.
-ghost use Rattle.std.specs.Prelude.{◌≡◌, ◌+◌, ◌≤◌, ◌<◌, ◌^◌, length};
+ghost use Rattle.std.specs.Prelude.{◌≡◌, ◌+◌, ◌*◌, ◌≤◌, ◌<◌, ◌^◌, length};
 ghost use Rattle.engine.specs.Streams as streams;
 ghost use Rattle.engine.specs.Feeding as feeding;
 ghost use Rattle.guard.specs.Guards.{part_limit};
@@ -13,6 +13,7 @@ use field::{Domain, FIELD_SIZE, LOWEST_GUARD_BIT};
 use guard::RunningGuard;
 
 // Returns a domain's block size. A domain without a signature has the other's, or 1 if neither has a signature.
+#[tactic(auto, unfolding(crate::specs::Streams::block_size))]
 pub(crate) fn block_size(d: Domain, other: Domain) -> u64
     ensures { (result ≡ streams.block_size d other) × (result < 2 ^ 32) }
 {
@@ -33,6 +34,7 @@ pub(crate) fn unit_size(d: Domain, other: Domain) -> u64
 }
 
 // Returns the size of the field after each block.
+#[tactic(auto, unfolding(crate::specs::Streams::field_size))]
 fn field_size(d: Domain) -> u64
     ensures { (result ≡ streams.field_size d) × (result ≤ field_bytes) }
 {
@@ -43,26 +45,23 @@ fn field_size(d: Domain) -> u64
     }
 }
 
-// True if the input guard is computed: only if one of its bytes is checked.
-pub(crate) fn checks_guard(rule: Rule) -> bool
-    ensures { result ≡ feeding.checks_guard rule }
-{
-    if field::signed(rule.input) {
-        rule.check_mask >= LOWEST_GUARD_BIT
-    } else {
-        false
+impl Rule {
+    // True if the input guard is computed: only if one of its bytes is checked. This test and the next share no more than
+    // `signed`: the domain, the mask and what is asked of it all differ.
+    #[tactic(auto, unfolding(crate::specs::Feeding::checks_guard))]
+    pub(crate) fn checks_guard(self) -> bool
+        ensures { result ≡ feeding.checks_guard self }
+    {
+        field::signed(self.input) && self.check_mask >= LOWEST_GUARD_BIT
     }
-}
 
-// True if the output guard is computed: only if one of its bytes is generated. Both are copied if both guard bits of
-// the copy mask are set.
-pub(crate) fn makes_guard(rule: Rule) -> bool
-    ensures { result ≡ feeding.makes_guard rule }
-{
-    if field::signed(rule.output) {
-        rule.copy_mask / LOWEST_GUARD_BIT % 4 != 3
-    } else {
-        false
+    // True if the output guard is computed: only if one of its bytes is generated. Both are copied if both guard bits of
+    // the copy mask are set.
+    #[tactic(auto, unfolding(crate::specs::Feeding::makes_guard))]
+    pub(crate) fn makes_guard(self) -> bool
+        ensures { result ≡ feeding.makes_guard self }
+    {
+        field::signed(self.output) && self.copy_mask / LOWEST_GUARD_BIT % 4 != 3
     }
 }
 
@@ -107,18 +106,28 @@ pub(crate) fn side_after(s: Side, n: u64, guard: RunningGuard) -> Side
     }
 }
 
-// Returns the number of output bytes stored.
-pub fn written(rule: Rule, p: Progress) -> u64
-    requires { positions.written rule p ≤ count_limit }
-    ensures { result ≡ positions.written rule p }
+// Returns the number of bytes of a domain's stream before this position.
+fn bytes_before(s: Side, d: Domain, other: Domain) -> u64
+    requires { s.index * streams.unit_size d other + s.at ≤ count_limit }
+    ensures { result ≡ s.index * streams.unit_size d other + s.at }
 {
-    p.output.index * unit_size(rule.output, rule.input) + p.output.at
+    s.index * unit_size(d, other) + s.at
 }
 
-// Returns the number of input bytes taken.
-pub fn taken(rule: Rule, p: Progress) -> u64
-    requires { positions.taken rule p ≤ count_limit }
-    ensures { result ≡ positions.taken rule p }
-{
-    p.input.index * unit_size(rule.input, rule.output) + p.input.at
+impl Rule {
+    // Returns the number of output bytes stored.
+    pub fn written(self, p: Progress) -> u64
+        requires { positions.written self p ≤ count_limit }
+        ensures { result ≡ positions.written self p }
+    {
+        bytes_before(p.output, self.output, self.input)
+    }
+
+    // Returns the number of input bytes taken.
+    pub fn taken(self, p: Progress) -> u64
+        requires { positions.taken self p ≤ count_limit }
+        ensures { result ≡ positions.taken self p }
+    {
+        bytes_before(p.input, self.input, self.output)
+    }
 }

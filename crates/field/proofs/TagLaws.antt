@@ -1,10 +1,10 @@
 -- Laws about reference tags, for any step from block to block and so for both editions: where the code may take the
 -- modulus, how tags and checks go on from a block in the middle of a transfer, and which reference tag is good.
+use Rattle.std.specs.Prelude.{Some, None}
 use Rattle.std.proofs.Common.{◌≡◌, ℕ, ◌+◌, ◌*◌, ◌/◌, ◌%◌, ◌^◌, ◌<◌, Bool, true, false, cond, not, ◌&&◌, eqb, ltb, List, [], ◌∷◌, sym, refl, ap, ◌∙◌, add-mul, div-add-mod', mul_right_comm, arith, ltb-false, eq-eqb, eqb-true}
 use borrow.Author.Tests.{lt-leb}
 use Rattle.field.specs.declared.Domain.{Domain}
 use Rattle.field.specs.declared.ProtectionField.{ProtectionField}
-use Rattle.field.specs.declared.Judgement.TheVariants.{Good, Bad}
 use Rattle.field.specs.declared.Tag.TheVariants.{Reference}
 use Rattle.field.specs.Tests.{bit}
 use Rattle.field.specs.Domains.{remaps, tag_step, tag_at, reference_tag, domain_from}
@@ -65,18 +65,18 @@ none_differ (c ∷ cs) [] = refl
 none_differ (c ∷ cs) (x ∷ xs) = rw (self_same c x) (none_differ cs xs)
 
 -- A field that the domain's rule computes for block i is good there, under any check mask.
-pub given_checks : (d : Domain) (m i g : ℕ) → judged d m i g (computed_field d i g) ≡ Good
+pub given_checks : (d : Domain) (m i g : ℕ) → judged d m i g (computed_field d i g) ≡ None
 unfolding judged differing first_bad
 given_checks d m i g =
     let f = computed_field d i g in
     rw (none_differ (bytes_in (checked_mask d m f)) (bytes_of f))
 
 -- A set of bytes of the reference tag is empty if it makes no tag bad.
-no_set : (set : ℕ) (computed found : ProtectionField) → set < 16 → first_bad set computed found ≡ Good → set ≡ 0
+no_set : (set : ℕ) (computed found : ProtectionField) → set < 16 → first_bad set computed found ≡ None → set ≡ 0
 unfolding first_bad
 no_set set computed found l h = go (ltb 0 (set % 16)) refl (rw (lt-leb 64 set (omega arith), lt-leb 16 (set % 64) (omega arith)) at h)
   where
-    go : (b : Bool) → ltb 0 (set % 16) ≡ b → cond b (Bad (mismatch Reference set computed found)) Good ≡ Good → set ≡ 0
+    go : (b : Bool) → ltb 0 (set % 16) ≡ b → cond b (Some (mismatch Reference set computed found)) None ≡ None → set ≡ 0
     go true e z = let y : ◌≡◌ {A = ℕ} 0 1 = cc in absurd (omega arith)
     go false e z = omega (arith, ltb-false 0 (set % 16) e)
 
@@ -92,7 +92,7 @@ same_byte x y h = go (eqb x y) refl h
 -- checked. If the field is good, its reference tag is that of block i.
 pub checked_reference : (d : Domain) (m i g x : ℕ) → bit m 8 ≡ true → bit m 4 ≡ true → bit m 2 ≡ true → bit m 1 ≡ true
     → let found : ProtectionField = record { guard = g; application = d.application_tag; reference = x } in
-    escaped d found ≡ false → judged d m i g found ≡ Good → x ≡ reference_tag d i
+    escaped d found ≡ false → judged d m i g found ≡ None → x ≡ reference_tag d i
 unfolding judged differing differs mask_of bytes_of computed_field checked_mask
 checked_reference d m i g x m8 m4 m2 m1 e h =
     let t = d.application_tag in

@@ -4,6 +4,7 @@
 --   remap_flag, escape_by_application_flag, escape_by_both_flag, flags_max    domain flags
 --   signed d                   the domain has a signature
 --   unsigned_domain             a domain without one
+--   has_flag d flag             the domain has this flag
 --   remaps d                   the reference tag counts up with each block
 --   escapes_by_application d     the application tag alone escapes a block
 --   escapes_by_both d            the application tag and the reference tag together escape a block
@@ -14,6 +15,8 @@
 --   domain_from d i             the domain whose block 0 is block i of d
 use Rattle.std.specs.Prelude.{ℕ, ◌+◌, ◌*◌, ◌/◌, ◌%◌, ◌^◌, Bool, cond, ◌==◌}
 use Rattle.field.specs.declared.Domain.{Domain}
+use Rattle.field.specs.declared.Flag.{Flag}
+use Rattle.field.specs.declared.Flag.TheVariants.{Remap, EscapeByApplication, EscapeByBoth}
 use Rattle.field.specs.Tests.{bit}
 
 -- The kind of a domain with a signature. Kind 0 has none.
@@ -67,6 +70,12 @@ unsigned_domain = record {
   flags = 0;
   edition = 0;
 }
+
+-- The domain has this flag.
+abbrev pub has_flag : (d : Domain) (flag : Flag) → Bool
+has_flag d Remap = bit d.flags remap_flag
+has_flag d EscapeByApplication = bit d.flags escape_by_application_flag
+has_flag d EscapeByBoth = bit d.flags escape_by_both_flag
 
 -- The reference tag counts up with each block.
 abbrev pub remaps : (d : Domain) → Bool

@@ -11,12 +11,10 @@
 --   mismatch tag set computed found     a wrong tag with both its values and its differing bytes
 --   first_bad set computed found         the first wrong tag, given the set of differing bytes
 --   judged d mask i guard found         the judgement of the field found after block i
-use Rattle.std.specs.Prelude.{ℕ, ◌+◌, ◌*◌, ◌/◌, ◌%◌, Bool, true, false, cond, not, ◌&&◌, ◌||◌, List, [], ◌∷◌, ◌==◌, nat_le, nat_lt}
+use Rattle.std.specs.Prelude.{ℕ, ◌+◌, ◌*◌, ◌/◌, ◌%◌, Bool, true, false, cond, not, ◌&&◌, ◌||◌, List, [], ◌∷◌, ◌==◌, nat_le, nat_lt, Option, Some, None}
 use Rattle.field.specs.declared.Domain.{Domain}
 use Rattle.field.specs.declared.ProtectionField.{ProtectionField}
 use Rattle.field.specs.declared.Mismatch.{Mismatch}
-use Rattle.field.specs.declared.Judgement.{Judgement}
-use Rattle.field.specs.declared.Judgement.TheVariants.{Good, Bad}
 use Rattle.field.specs.declared.Tag.{Tag}
 use Rattle.field.specs.declared.Tag.TheVariants.{Guard, Application, Reference}
 use Rattle.field.specs.Domains.{escapes_by_application, escapes_by_both}
@@ -86,13 +84,13 @@ mismatch tag set computed found = record {
 }
 
 -- The first wrong tag, given the set of differing bytes.
-unfoldable pub first_bad : (set : ℕ) (computed found : ProtectionField) → Judgement
+unfoldable pub first_bad : (set : ℕ) (computed found : ProtectionField) → Option Mismatch
 first_bad set computed found =
-    cond (nat_le lowest_guard_bit set) (Bad (mismatch Guard set computed found))
-    (cond (nat_le lowest_application_bit (set % lowest_guard_bit)) (Bad (mismatch Application set computed found))
-    (cond (nat_lt 0 (set % lowest_application_bit)) (Bad (mismatch Reference set computed found)) Good))
+    cond (nat_le lowest_guard_bit set) (Some (mismatch Guard set computed found))
+    (cond (nat_le lowest_application_bit (set % lowest_guard_bit)) (Some (mismatch Application set computed found))
+    (cond (nat_lt 0 (set % lowest_application_bit)) (Some (mismatch Reference set computed found)) None))
 
 -- The judgement of the field found after block i, whose data has this guard, under a domain and a check mask.
-unfoldable pub judged : (d : Domain) (mask i guard : ℕ) (found : ProtectionField) → Judgement
+unfoldable pub judged : (d : Domain) (mask i guard : ℕ) (found : ProtectionField) → Option Mismatch
 judged d mask i g found =
     first_bad (differing (checked_mask d mask found) found (computed_field d i g)) (computed_field d i g) found

@@ -5,29 +5,31 @@ ghost use Rattle.field.specs.Judging.{digit, judged};
 
 use crate::bytes::{high_half, low_half};
 use crate::{
-    Domain, ESCAPE_APPLICATION_TAG, ESCAPE_REFERENCE_TAG, Judgement, LOWEST_APPLICATION_BIT,
+    Domain, ESCAPE_APPLICATION_TAG, ESCAPE_REFERENCE_TAG, Flag, LOWEST_APPLICATION_BIT,
     LOWEST_GUARD_BIT, Mismatch, ProtectionField, Tag,
 };
 
 // True if the found field escapes its block, so that no byte of it is checked. The field is read whole, whatever the
 // check mask.
+#[tactic(auto, unfolding(crate::specs::Judging::escaped))]
 fn escaped(d: Domain, found: ProtectionField) -> bool
     ensures { result ≡ judging.escaped d found }
 {
     if found.application != ESCAPE_APPLICATION_TAG {
         return false;
     }
-    if crate::escapes_by_application(d) {
+    if crate::has_flag(d, Flag::EscapeByApplication) {
         return true;
     }
-    if crate::escapes_by_both(d) {
+    if crate::has_flag(d, Flag::EscapeByBoth) {
         found.reference == ESCAPE_REFERENCE_TAG
     } else {
         false
     }
 }
 
-// Returns the set of differing checked bytes, as a mask.
+// Returns the set of differing checked bytes, as a mask. Written out, each line shows which bit stands for which byte.
+#[tactic(auto, unfolding(crate::specs::Judging::differing, crate::specs::Judging::differs, crate::specs::Judging::mask_of, crate::specs::Fields::bytes_of))]
 fn differing(mask: u8, found: ProtectionField, right: ProtectionField) -> u8
     ensures { result ≡ judging.differing mask found right }
 {
@@ -69,15 +71,18 @@ fn differs_pair(high: bool, low: bool, x: u16, y: u16) -> u8
 fn differs_bit(checked: bool, x: u16, y: u16) -> u8
     ensures { (result ≡ digit (checked && not (x == y))) × (result ≤ 1) }
 {
-    if checked {
-        if x == y { 0 } else { 1 }
-    } else {
-        0
-    }
+    u8::from(checked & (x != y))
 }
 
-// Judges the field found after block i, whose data has this guard: returns its first wrong tag, or Good.
-pub fn judge(d: Domain, check_mask: u8, i: u64, guard: u16, found: ProtectionField) -> Judgement
+// Judges the field found after block i, whose data has this guard: returns its first wrong tag, if it has one.
+#[tactic(auto, unfolding(crate::specs::Judging::judged))]
+pub fn judge(
+    d: Domain,
+    check_mask: u8,
+    i: u64,
+    guard: u16,
+    found: ProtectionField,
+) -> Option<Mismatch>
     ensures { result ≡ judged d check_mask i guard found }
 {
     let right = crate::compute_field(d, i, guard);
@@ -89,6 +94,7 @@ pub fn judge(d: Domain, check_mask: u8, i: u64, guard: u16, found: ProtectionFie
 }
 
 // Returns the mask of the bytes to check: no byte of an escaped block is checked.
+#[tactic(auto, unfolding(crate::specs::Judging::checked_mask))]
 fn checked_mask(d: Domain, mask: u8, found: ProtectionField) -> u8
     ensures { result ≡ judging.checked_mask d mask found }
 {
@@ -96,11 +102,12 @@ fn checked_mask(d: Domain, mask: u8, found: ProtectionField) -> u8
 }
 
 // Returns the first wrong tag with its own differing bytes, given the set of all differing bytes.
-fn first_bad(set: u8, right: ProtectionField, found: ProtectionField) -> Judgement
+#[tactic(auto, unfolding(crate::specs::Judging::first_bad))]
+fn first_bad(set: u8, right: ProtectionField, found: ProtectionField) -> Option<Mismatch>
     ensures { result ≡ judging.first_bad set right found }
 {
     if set >= LOWEST_GUARD_BIT {
-        return Judgement::Bad(Mismatch {
+        return Some(Mismatch {
             tag: Tag::Guard,
             actual: right.guard as u32,
             expected: found.guard as u32,
@@ -108,7 +115,7 @@ fn first_bad(set: u8, right: ProtectionField, found: ProtectionField) -> Judgeme
         });
     }
     if set % LOWEST_GUARD_BIT >= LOWEST_APPLICATION_BIT {
-        return Judgement::Bad(Mismatch {
+        return Some(Mismatch {
             tag: Tag::Application,
             actual: right.application as u32,
             expected: found.application as u32,
@@ -117,12 +124,12 @@ fn first_bad(set: u8, right: ProtectionField, found: ProtectionField) -> Judgeme
         });
     }
     if set % LOWEST_APPLICATION_BIT > 0 {
-        return Judgement::Bad(Mismatch {
+        return Some(Mismatch {
             tag: Tag::Reference,
             actual: right.reference,
             expected: found.reference,
             differing: (set % LOWEST_APPLICATION_BIT) as u32,
         });
     }
-    Judgement::Good
+    None
 }

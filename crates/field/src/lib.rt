@@ -11,7 +11,6 @@ ghost use Rattle.std.specs.Prelude.{◌≡◌, ◌<◌};
 ghost use Rattle.field.specs.Domains as domains;
 ghost use Rattle.field.specs.Fields as fields;
 
-pub use bytes::{decode, encode};
 pub use judging::judge;
 pub use output_field::{copy_mask, merge_fields};
 
@@ -33,13 +32,6 @@ pub const GUARD_TYPE_MAX: u32 = 1;
 
 // A guard starts from seed 0 or from this one.
 pub const SEED_ONES: u16 = 0xFFFF;
-
-// Domain flags.
-const REMAP: u32 = 1;
-
-const ESCAPE_BY_APPLICATION: u32 = 2;
-
-const ESCAPE_BY_BOTH: u32 = 4;
 
 pub const FLAGS_MAX: u32 = 7;
 
@@ -71,10 +63,10 @@ pub const EDITION_2: u32 = 2;
 
 pub const SECTOR_SIZE: u32 = 512;
 
-// One side of a transfer. A domain of kind 0 has no signature, and its other numbers are ignored. C sees this struct as
-// it is.
+// One side of a transfer. A domain of kind 0, as the default, has no signature, and its other numbers are ignored. C
+// sees this struct as it is, with any numbers, so kind, guard type, flags and edition are numbers and not enums.
 #[repr(C)]
-#[derive(Clone, Copy)]
+#[derive(Clone, Copy, Debug, Default, PartialEq, Eq)]
 pub struct Domain {
     pub kind: u32,
     pub block_size: u32,
@@ -86,8 +78,17 @@ pub struct Domain {
     pub edition: u32,
 }
 
+// A flag of a domain: the reference tag counts up with each block, the application tag alone escapes a block, or both
+// tags together escape one.
+#[derive(Clone, Copy, Debug, PartialEq, Eq)]
+pub enum Flag {
+    Remap,
+    EscapeByApplication,
+    EscapeByBoth,
+}
+
 // The eight bytes after a block, as three numbers.
-#[derive(Clone, Copy)]
+#[derive(Clone, Copy, Debug, PartialEq, Eq)]
 pub struct ProtectionField {
     pub guard: u16,
     pub application: u16,
@@ -95,7 +96,7 @@ pub struct ProtectionField {
 }
 
 // One of the three numbers of a field.
-#[derive(Clone, Copy)]
+#[derive(Clone, Copy, Debug, PartialEq, Eq)]
 pub enum Tag {
     Guard,
     Application,
@@ -105,34 +106,12 @@ pub enum Tag {
 // A tag whose found value differs from the computed one. Actual is what the rule computes, expected what was found, and
 // differing the mask of the tag's checked bytes in which they differ. It is a u32, because a u8 would leave three more
 // bytes of padding in an error slot.
-#[derive(Clone, Copy)]
+#[derive(Clone, Copy, Debug, PartialEq, Eq)]
 pub struct Mismatch {
     pub tag: Tag,
     pub actual: u32,
     pub expected: u32,
     pub differing: u32,
-}
-
-#[derive(Clone, Copy)]
-pub enum Judgement {
-    Good,
-    Bad(Mismatch),
-}
-
-// Returns a domain without a signature.
-pub fn unsigned_domain() -> Domain
-    ensures { result ≡ domains.unsigned_domain }
-{
-    Domain {
-        kind: 0,
-        block_size: 0,
-        guard_type: 0,
-        reference_tag: 0,
-        seed: 0,
-        application_tag: 0,
-        flags: 0,
-        edition: 0,
-    }
 }
 
 // True if the domain has a signature.
@@ -142,29 +121,21 @@ pub fn signed(d: Domain) -> bool
     d.kind == T10_DIF
 }
 
-// True if the reference tag counts up with each block.
-fn remaps(d: Domain) -> bool
-    ensures { result ≡ domains.remaps d }
+// True if the domain has this flag.
+pub fn has_flag(d: Domain, flag: Flag) -> bool
+    ensures { result ≡ domains.has_flag d flag }
 {
-    d.flags / REMAP % 2 == 1
-}
-
-// True if the application tag alone escapes a block.
-pub fn escapes_by_application(d: Domain) -> bool
-    ensures { result ≡ domains.escapes_by_application d }
-{
-    d.flags / ESCAPE_BY_APPLICATION % 2 == 1
-}
-
-// True if the application tag and the reference tag together escape a block.
-pub fn escapes_by_both(d: Domain) -> bool
-    ensures { result ≡ domains.escapes_by_both d }
-{
-    d.flags / ESCAPE_BY_BOTH % 2 == 1
+    let bit = match flag {
+        Flag::Remap => 1,
+        Flag::EscapeByApplication => 2,
+        Flag::EscapeByBoth => 4,
+    };
+    d.flags / bit % 2 == 1
 }
 
 // Returns how much the reference tag grows from one block to the next under remap. It is below 2^23, because a block
 // size has 32 bits, so its product with a block's number modulo 2^32 fits 64 bits.
+#[tactic(auto, unfolding(crate::specs::Domains::tag_step))]
 fn tag_step(d: Domain) -> u64
     ensures { (result ≡ domains.tag_step d) × (result < 8388608) }
 {
@@ -176,18 +147,20 @@ fn tag_step(d: Domain) -> u64
 }
 
 // Returns the reference tag of block i of a transfer.
+#[tactic(auto, unfolding(crate::specs::Domains::reference_tag), using(crate::proofs::TagLaws::tag_wraps))]
 fn reference_tag(d: Domain, i: u64) -> u32
     ensures { result ≡ domains.reference_tag d i }
 {
-    if remaps(d) {
+    if has_flag(d, Flag::Remap) {
         let growth = i % REFERENCE_TAGS * tag_step(d) % REFERENCE_TAGS;
-        std::num::wrapping_add_u32(d.reference_tag, growth as u32)
+        d.reference_tag.wrapping_add(growth as u32)
     } else {
         d.reference_tag
     }
 }
 
 // Returns the field that the domain's rule computes for block i, whose data has this guard.
+#[tactic(auto, unfolding(crate::specs::Fields::computed_field))]
 pub fn compute_field(d: Domain, i: u64, guard: u16) -> ProtectionField
     ensures { result ≡ fields.computed_field d i guard }
 {

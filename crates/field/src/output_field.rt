@@ -4,10 +4,11 @@ ghost use Rattle.field.specs.Fields.{two_bytes};
 ghost use Rattle.field.specs.Output.{agreed, copy_mask, output_field};
 
 use crate::bytes::{be32, high_half, low_half};
-use crate::{APPLICATION_BITS, Domain, GUARD_BITS, ProtectionField, REFERENCE_BITS};
+use crate::{APPLICATION_BITS, Domain, Flag, GUARD_BITS, ProtectionField, REFERENCE_BITS};
 
 // Returns the mask of the output field bytes that are copied from the input field: the configured mask if an attribute
 // flag is set, else the tags in which both domains agree, and nothing if a domain has no signature.
+#[tactic(auto, unfolding(crate::specs::Output::copy_mask))]
 pub fn copy_mask(attribute_flags: u32, mask: u8, input: Domain, output: Domain) -> u8
     ensures { result ≡ copy_mask attribute_flags mask input output }
 {
@@ -23,6 +24,7 @@ pub fn copy_mask(attribute_flags: u32, mask: u8, input: Domain, output: Domain) 
 }
 
 // Returns the mask of the tags in which both domains agree.
+#[tactic(auto, unfolding(crate::specs::Output::agreed))]
 fn agreed_mask(a: Domain, b: Domain) -> u8
     ensures { result ≡ agreed a b }
 {
@@ -31,7 +33,7 @@ fn agreed_mask(a: Domain, b: Domain) -> u8
         GUARD_BITS,
     );
     let application = bits_if(a.application_tag == b.application_tag, APPLICATION_BITS);
-    let remap = crate::remaps(a) == crate::remaps(b);
+    let remap = crate::has_flag(a, Flag::Remap) == crate::has_flag(b, Flag::Remap);
     let reference = bits_if(
         (a.reference_tag == b.reference_tag) & (remap & (a.edition == b.edition)),
         REFERENCE_BITS,
@@ -47,6 +49,7 @@ fn bits_if(yes: bool, bits: u8) -> u8
 }
 
 // Returns a field whose bytes are copied where the mask's bit is set, and generated elsewhere.
+#[tactic(auto, unfolding(crate::specs::Output::output_field, crate::specs::Output::merged, crate::specs::Fields::bytes_of, crate::specs::Fields::field_of))]
 pub fn merge_fields(
     mask: u8,
     copied: ProtectionField,

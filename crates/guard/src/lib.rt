@@ -7,14 +7,15 @@ mod checksum;
 ghost use Rattle.std.specs.Prelude.{◌≡◌, ◌≤◌, length};
 ghost use Rattle.guard.specs.Guards.{part_limit, started, advanced, guard_value};
 
-// 01's guard types. Configure refuses any other number; in this crate each number above 0 is a checksum.
+// 01's guard types. Configure refuses any other number; in this crate each number above 0 is a checksum. They are
+// numbers and no enum: the C struct Domain holds one, and a caller of `advance` and `value` may pass each `u32`.
 pub const CRC: u32 = 0;
 
 pub const CHECKSUM: u32 = 1;
 
 // The guard of the bytes so far: the CRC register, or the ones' complement sum and whether it holds an odd number of
 // bytes.
-#[derive(Clone, Copy)]
+#[derive(Clone, Copy, PartialEq, Eq, Debug)]
 pub struct RunningGuard {
     pub value: u16,
     pub odd: bool,
@@ -31,6 +32,7 @@ pub fn start(seed: u16) -> RunningGuard
 }
 
 // Returns the running guard after a part of the block. A part may start and end at any byte.
+#[tactic(auto, using(crate::proofs::Laws::advanced_crc, crate::proofs::Laws::advanced_checksum))]
 pub fn advance(guard_type: u32, g: RunningGuard, part: &[u8]) -> RunningGuard
     requires { length part.now ≤ part_limit }
     ensures { result ≡ advanced guard_type g part.now }
@@ -46,6 +48,7 @@ pub fn advance(guard_type: u32, g: RunningGuard, part: &[u8]) -> RunningGuard
 }
 
 // Returns the guard of the bytes so far.
+#[tactic(auto, unfolding(crate::specs::Guards::guard_value))]
 pub fn value(guard_type: u32, g: RunningGuard) -> u16
     ensures { result ≡ guard_value guard_type g }
 {

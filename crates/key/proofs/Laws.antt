@@ -1,4 +1,5 @@
 -- Laws about keys: what an accepted configure and an accepted open imply, and which keys come from the calls.
+use Rattle.std.specs.Prelude.{⊤, Result, Ok, Err}
 use mathlib.Core.Path.{◌≡◌, refl, sym}
 use mathlib.Core.Bool.{Bool, true, false, ◌&&◌, ◌||◌, not, cond}
 use Prim.Native.Nat.{ℕ, ◌+◌, ◌-◌, ◌*◌, ◌/◌, ◌%◌, ◌≤◌, ◌<◌}
@@ -10,8 +11,7 @@ use Rattle.field.specs.declared.Domain.{Domain}
 use Rattle.field.specs.declared.ProtectionField.{ProtectionField}
 use Rattle.field.specs.Domains.{signed, escapes_by_application, escapes_by_both}
 use Rattle.field.specs.Judging.{escaped}
-use Rattle.layout.specs.declared.layout_rules.Verdict.{Verdict}
-use Rattle.layout.specs.declared.layout_rules.Verdict.TheVariants.{Sound, Malformed, Outside, Overlapping}
+use Rattle.layout.specs.declared.layout_rules.LayoutError.{LayoutError}
 use Rattle.layout.specs.Pieces.{total}
 use Rattle.layout.specs.Answers.{verdict_on, fits}
 use Rattle.layout.proofs.AnswerLaws.{or_false, fits_told}
@@ -20,50 +20,44 @@ use Rattle.layout.specs.Inner.Steps.{Fits}
 use Rattle.key.specs.declared.Signature.{Signature}
 use Rattle.key.specs.declared.Configuration.{Configuration}
 use Rattle.key.specs.declared.Key.{Key}
-use Rattle.slot.specs.declared.Slot.{Slot}
-use Rattle.slot.specs.Slots.{error_numbers}
-use Rattle.key.specs.declared.Outcome.{Outcome}
-use Rattle.key.specs.declared.Outcome.TheVariants.{Done, Refused}
-use Rattle.key.specs.declared.Refusal.{Refusal}
-use Rattle.key.specs.declared.Refusal.TheVariants.{BadDomain, EscapeTag, CopyMask, BlockSizes, MemoryLength, PartialBlock, PastLayout, ShortWire, NotConfigured, Edition}
-use Rattle.key.specs.Numbers.{refuse}
+use Rattle.slot.specs.Slots.{Slot, error_numbers}
+use Rattle.key.specs.Numbers.{Outcome, refuse, then}
+use Rattle.key.specs.declared.refusal.Refusal.{Refusal}
+use Rattle.key.specs.declared.refusal.Refusal.TheVariants.{BadDomain, EscapeTag, CopyMask, BlockSizes, MemoryLength, PartialBlock, PastLayout, ShortWire, NotConfigured, Edition}
 use Rattle.key.specs.Configuring.{memory_limit, bad_block_size, bad_seed, bad_domain, bad_edition, escapes_always, same_size, bad_domains, bad_editions, bad_escape_tags, bad_copy_mask, unlike_sizes, signature_answer, layout_answer, configure_answer}
 use Rattle.key.specs.Inner.Admission.{GoodDomain}
-use Rattle.key.specs.Numbers.{then}
 use Rattle.key.specs.Keys.{fresh_key, with_slot, configure_result_by, configure_result, check_result, CameFromCalls, NeverConfiguredZeros, accepts, key_valid, KeyValid}
 use Rattle.key.specs.Streams.{stream_length}
-use Rattle.key.specs.Inner.Admission.{Sized}
+use Rattle.key.specs.Inner.Admission.{Sized, Measured}
 use Rattle.key.specs.Admitting.{partial, open_answer, transfer_answer}
 use Rattle.key.specs.Inner.Admission.{Bounded, Blocks, Admitted}
 
 -- ---- tests
 
--- `refuse` returns Done only if its test is false and the rest is Done.
-pub refuse_done : (b : Bool) (r : Refusal) (rest : Outcome) → refuse b r rest ≡ Done → (b ≡ false) × (rest ≡ Done)
+-- `refuse` returns Ok only if its test is false and the rest is Ok.
+pub refuse_done : (b : Bool) (r : Refusal) (rest : Outcome) → refuse b r rest ≡ Ok tt → (b ≡ false) × (rest ≡ Ok tt)
 refuse_done true r rest h = let z : ◌≡◌ {A = ℕ} 0 1 = cc in absurd (omega arith)
 refuse_done false r rest h = (refl, h)
 
--- An answer is Done exactly if no test holds: `accepts-refuse` for one test and those after it, `accepts_last` for the
+-- An answer is Ok exactly if no test holds: `accepts_refuse` for one test and those after it, `accepts_last` for the
 -- last.
-pub accepts-refuse : (b : Bool) (r : Refusal) (rest : Outcome) (more : Bool) → accepts rest ≡ not more → accepts (refuse b r rest) ≡ not (b || more)
-accepts-refuse true r rest more h = refl
-accepts-refuse false r rest more h = h
+pub accepts_refuse : (b : Bool) (r : Refusal) (rest : Outcome) (more : Bool) → accepts rest ≡ not more → accepts (refuse b r rest) ≡ not (b || more)
+accepts_refuse true r rest more h = refl
+accepts_refuse false r rest more h = h
 
-pub accepts_last : (b : Bool) (r : Refusal) → accepts (refuse b r Done) ≡ not b
+pub accepts_last : (b : Bool) (r : Refusal) → accepts (refuse b r (Ok tt)) ≡ not b
 accepts_last true r = refl
 accepts_last false r = refl
 
--- `then` returns Done only if both its outcomes are Done.
-then_done : (a b : Outcome) → then a b ≡ Done → (a ≡ Done) × (b ≡ Done)
-then_done Done b h = (refl, h)
-then_done (Refused r) b h = let z : ◌≡◌ {A = ℕ} 0 1 = cc in absurd (omega arith)
+-- `then` returns Ok only if both its outcomes are Ok.
+then_done : (a b : Outcome) → then a b ≡ Ok tt → (a ≡ Ok tt) × (b ≡ Ok tt)
+then_done (Ok tt) b h = (refl, h)
+then_done (Err r) b h = let z : ◌≡◌ {A = ℕ} 0 1 = cc in absurd (omega arith)
 
--- Only the verdict Sound has the answer Done.
-layout_done : (v : Verdict) → layout_answer v ≡ Done → v ≡ Sound
-layout_done Sound h = refl
-layout_done Malformed h = let z : ◌≡◌ {A = ℕ} 0 1 = cc in absurd (omega arith)
-layout_done Outside h = let z : ◌≡◌ {A = ℕ} 0 1 = cc in absurd (omega arith)
-layout_done Overlapping h = let z : ◌≡◌ {A = ℕ} 0 1 = cc in absurd (omega arith)
+-- Only a layout without an error has the answer Ok.
+layout_done : (v : Result ⊤ LayoutError) → layout_answer v ≡ Ok tt → v ≡ Ok tt
+layout_done (Ok tt) h = refl
+layout_done (Err e) h = let z : ◌≡◌ {A = ℕ} 0 1 = cc in absurd (omega arith)
 
 -- ---- streams
 
@@ -101,15 +95,15 @@ pub record Signs (s : Signature) : Type 0 where
   pub wire_tag : escapes_always s.wire ≡ false
   pub sizes : unlike_sizes s ≡ false
 
--- If the answer to a signature is Done, `Signs` holds for it.
-pub signature_done : (s : Signature) → signature_answer s ≡ Done → Signs s
+-- If the answer to a signature is Ok, `Signs` holds for it.
+pub signature_done : (s : Signature) → signature_answer s ≡ Ok tt → Signs s
 unfolding signature_answer
 signature_done s h =
     let first = refuse_done (bad_domains s) BadDomain _ h in
     let edition = refuse_done (bad_editions s) Edition _ first.1 in
     let tag = refuse_done (bad_escape_tags s) EscapeTag _ edition.1 in
     let mask = refuse_done (bad_copy_mask s) CopyMask _ tag.1 in
-    let sizes = refuse_done (unlike_sizes s) BlockSizes Done mask.1 in
+    let sizes = refuse_done (unlike_sizes s) BlockSizes (Ok tt) mask.1 in
     let m = or_false (bad_domain s.memory) (bad_domain s.wire || ltb 1 s.attribute_flags) first.0 in
     let e = or_false (bad_edition s.memory) (bad_edition s.wire) edition.0 in
     let t = or_false (escapes_always s.memory) (escapes_always s.wire) tag.0 in
@@ -123,15 +117,15 @@ signature_done s h =
       sizes = sizes.0;
     }
 
--- `Accepts n c` says that a memory of n bytes is within the limit, the answer to the signature is Done, and the layout
+-- `Accepts n c` says that a memory of n bytes is within the limit, the answer to the signature is Ok, and the layout
 -- is sound.
 pub record Accepts (n : ℕ) (c : Configuration) : Type 0 where
   pub limit : n ≤ memory_limit
-  pub signature : signature_answer c.signature ≡ Done
-  pub sound : verdict_on c.layout n ≡ Sound
+  pub signature : signature_answer c.signature ≡ Ok tt
+  pub sound : verdict_on c.layout n ≡ Ok tt
 
--- If configure's answer is Done, `Accepts` holds for the configuration.
-pub configure_done : (n : ℕ) (c : Configuration) → configure_answer n c ≡ Done → Accepts n c
+-- If configure's answer is Ok, `Accepts` holds for the configuration.
+pub configure_done : (n : ℕ) (c : Configuration) → configure_answer n c ≡ Ok tt → Accepts n c
 unfolding configure_answer
 configure_done n c h =
     let a = refuse_done (ltb memory_limit n) MemoryLength (then (signature_answer c.signature) (layout_answer (verdict_on c.layout n))) h in
@@ -188,10 +182,10 @@ pub record Held (k : Key) : Type 0 where
   pub fits : Fits k.layout k.memory_length
   pub bounded : Bounded k.layout
 
-all_three : (a : Bool) (o : Outcome) (b : Bool) → not a && (accepts o && b) ≡ true → (a ≡ false) × (o ≡ Done) × (b ≡ true)
+all_three : (a : Bool) (o : Outcome) (b : Bool) → not a && (accepts o && b) ≡ true → (a ≡ false) × (o ≡ Ok tt) × (b ≡ true)
 all_three true o b h = let z : ◌≡◌ {A = ℕ} 0 1 = cc in absurd (omega arith)
-all_three false (Refused r) b h = let z : ◌≡◌ {A = ℕ} 0 1 = cc in absurd (omega arith)
-all_three false Done b h = (refl, refl, h)
+all_three false (Err r) b h = let z : ◌≡◌ {A = ℕ} 0 1 = cc in absurd (omega arith)
+all_three false (Ok tt) b h = (refl, refl, h)
 
 -- If a valid key is configured, `Held` holds for it.
 pub held : (k : Key) → KeyValid k → k.configured ≡ true → Held k
@@ -203,6 +197,16 @@ held k u h =
     let b : total k.layout ≤ memory_limit = omega (arith, f.small, l) in
     record { limit = l; signs = signature_done k.signature t.1; fits = f; bounded = record { used = f.shaped.used; few = f.shaped.few; small = b } }
 
+-- What the tests of an admission require of a valid key that is configured.
+pub memory_sized : (k : Key) → KeyValid k → k.configured ≡ true → Sized k.signature.memory
+memory_sized k u h = sized k.signature.memory (held k u h).signs.memory
+
+pub wire_sized : (k : Key) → KeyValid k → k.configured ≡ true → Sized k.signature.wire
+wire_sized k u h = sized k.signature.wire (held k u h).signs.wire
+
+pub layout_bounded : (k : Key) → KeyValid k → k.configured ≡ true → Bounded k.layout
+layout_bounded k u h = (held k u h).bounded
+
 -- A fresh key is a key from the calls.
 pub came_fresh : CameFromCalls fresh_key
 came_fresh = record { never = λ h. refl; accepted = λ h. let z : ◌≡◌ {A = ℕ} 0 1 = cc in absurd (omega arith) }
@@ -212,8 +216,8 @@ pub came_configured : (k : Key) (n : ℕ) (c : Configuration) → CameFromCalls 
 came_configured k n c came = go (configure_answer n c) refl
   where
     go : (o : Outcome) → configure_answer n c ≡ o → CameFromCalls (configure_result_by o k n c).key
-    go Done e = record { never = λ h. let z : ◌≡◌ {A = ℕ} 0 1 = cc in absurd (omega arith); accepted = λ h. e }
-    go (Refused r) e = came
+    go (Ok tt) e = record { never = λ h. let z : ◌≡◌ {A = ℕ} 0 1 = cc in absurd (omega arith); accepted = λ h. e }
+    go (Err r) e = came
 
 -- If a configured key is from the calls, so is the same key with an error recorded in its slot.
 pub came_with_error : (k : Key) (s : Slot) → CameFromCalls k → k.configured ≡ true → CameFromCalls (with_slot k s)
@@ -244,8 +248,8 @@ one_size :
     → s.memory.block_size ≡ s.wire.block_size
 one_size s h m w = eqb-true s.memory.block_size s.wire.block_size (not-false (same_size s) (rw (m, w) at h))
 
--- If open's answer for a valid key is Done, `Admitted` holds.
-pub admitted : (k : Key) (n x data_length : ℕ) → KeyValid k → open_answer k n x data_length ≡ Done → Admitted k n x data_length
+-- If open's answer for a valid key is Ok, `Admitted` holds.
+pub admitted : (k : Key) (n x data_length : ℕ) → KeyValid k → open_answer k n x data_length ≡ Ok tt → Admitted k n x data_length
 unfolding open_answer
 admitted k n x data_length u h =
     let m = k.signature.memory in
@@ -253,7 +257,7 @@ admitted k n x data_length u h =
     let a = refuse_done (not k.configured) NotConfigured _ h in
     let b = refuse_done (not (eqb n k.memory_length)) MemoryLength _ a.1 in
     let c = refuse_done (partial m data_length || partial w data_length) PartialBlock _ b.1 in
-    let d = refuse_done (ltb (total k.layout) (x + stream_length m data_length)) PastLayout Done c.1 in
+    let d = refuse_done (ltb (total k.layout) (x + stream_length m data_length)) PastLayout (Ok tt) c.1 in
     let conf = not-false k.configured a.0 in
     let same = eqb-true n k.memory_length (not-false (eqb n k.memory_length) b.0) in
     let whole = or_false (partial m data_length) (partial w data_length) c.0 in
@@ -272,14 +276,24 @@ admitted k n x data_length u h =
       alike = one_size k.signature g.signs.sizes;
     }
 
--- If a transfer's answer is Done, so is open's, and the wire buffer is no shorter than the wire stream.
+-- After an accepted open the length of the wire's stream can be computed.
+pub wire_measured :
+    (k : Key) (n x data_length : ℕ)
+    → KeyValid k
+    → open_answer k n x data_length ≡ Ok tt
+    → Measured k.signature.wire data_length
+wire_measured k n x data_length u h =
+    let a = admitted k n x data_length u h in
+    record { sized = λ s. (a.wire s).good.least; short = omega (arith, a.short) }
+
+-- If a transfer's answer is Ok, so is open's, and the wire buffer is no shorter than the wire stream.
 pub transfer_admitted :
-    (k : Key) (n x data_length w : ℕ) → transfer_answer k n x data_length w ≡ Done → (open_answer k n x data_length ≡ Done) × (stream_length k.signature.wire data_length ≤ w)
+    (k : Key) (n x data_length w : ℕ) → transfer_answer k n x data_length w ≡ Ok tt → (open_answer k n x data_length ≡ Ok tt) × (stream_length k.signature.wire data_length ≤ w)
 unfolding transfer_answer
 transfer_admitted k n x data_length w h =
     let s = stream_length k.signature.wire data_length in
-    let a = then_done (open_answer k n x data_length) (refuse (ltb w s) ShortWire Done) h in
-    (a.0, ltb-false w s (refuse_done (ltb w s) ShortWire Done a.1).0)
+    let a = then_done (open_answer k n x data_length) (refuse (ltb w s) ShortWire (Ok tt)) h in
+    (a.0, ltb-false w s (refuse_done (ltb w s) ShortWire (Ok tt) a.1).0)
 
 -- ---- answer 2 and the escape
 
@@ -305,7 +319,7 @@ shut d h = record {
 }
 
 -- `Shut` holds for both domains of a configuration that configure accepts.
-pub escape_shut : (n : ℕ) (c : Configuration) → configure_answer n c ≡ Done → Shut c.signature.memory × Shut c.signature.wire
+pub escape_shut : (n : ℕ) (c : Configuration) → configure_answer n c ≡ Ok tt → Shut c.signature.memory × Shut c.signature.wire
 escape_shut n c h =
     let g = signature_done c.signature (configure_done n c h).signature in
     (shut c.signature.memory g.memory_tag, shut c.signature.wire g.wire_tag)
@@ -317,11 +331,11 @@ pub sizes : (bad_block_size 4160 ≡ false) × (bad_block_size 4168 ≡ true) ×
 sizes = (refl, refl, refl, refl)
 
 -- Open refuses a key that was never configured with answer 14, whatever else holds.
-pub never_configured : (k : Key) (n x data_length : ℕ) → k.configured ≡ false → open_answer k n x data_length ≡ Refused NotConfigured
+pub never_configured : (k : Key) (n x data_length : ℕ) → k.configured ≡ false → open_answer k n x data_length ≡ Err NotConfigured
 unfolding open_answer
 never_configured k n x data_length h = rw h
 
 -- Configure refuses a memory above the limit with answer 8, whatever else holds.
-pub above_limit : (n : ℕ) (c : Configuration) → memory_limit < n → configure_answer n c ≡ Refused MemoryLength
+pub above_limit : (n : ℕ) (c : Configuration) → memory_limit < n → configure_answer n c ≡ Err MemoryLength
 unfolding configure_answer
 above_limit n c h = rw (lt-ltb memory_limit n h)

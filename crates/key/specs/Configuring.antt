@@ -10,8 +10,8 @@
 --   bad_domains s, bad_editions s, bad_escape_tags s, bad_copy_mask s, unlike_sizes s    answers 1, 20, 2, 3 and 4 apply
 --   signature_answer s                     answers 1, 20, 2, 3 and 4
 --   layout_answer verdict                  answers 5 to 7
---   configure_answer memory_length c        configure's answer: 8, 1, 20, 2 to 7, or Done
-use Rattle.std.specs.Prelude.{Bool, ◌&&◌, ◌||◌, not, ℕ, ◌%◌, eqb, ltb}
+--   configure_answer memory_length c        configure's answer: 8, 1, 20, 2 to 7, or Ok
+use Rattle.std.specs.Prelude.{⊤, Result, Err, Bool, ◌&&◌, ◌||◌, not, ℕ, ◌%◌, eqb, ltb, Ok}
 use Rattle.field.specs.declared.Domain.{Domain}
 use Rattle.field.specs.Tests.{bit}
 use Rattle.field.specs.Domains.{t10_dif, block_size_step, block_size_min, block_size_max, guard_type_max, seed_ones}
@@ -19,16 +19,13 @@ use Rattle.field.specs.Domains.{escape_by_application_flag, escape_by_both_flag,
 use Rattle.field.specs.Domains.{edition1, edition2, sector_size}
 use Rattle.field.specs.Domains.{signed, escapes_by_application, escapes_by_both}
 use Rattle.field.specs.Judging.{escape_application_tag}
-use Rattle.layout.specs.declared.layout_rules.Verdict.{Verdict}
-use Rattle.layout.specs.declared.layout_rules.Verdict.TheVariants.{Sound, Malformed, Outside, Overlapping}
+use Rattle.layout.specs.declared.layout_rules.LayoutError.{LayoutError}
 use Rattle.layout.specs.Answers.{verdict_on}
 use Rattle.key.specs.declared.Signature.{Signature}
 use Rattle.key.specs.declared.Configuration.{Configuration}
-use Rattle.key.specs.declared.Outcome.{Outcome}
-use Rattle.key.specs.declared.Outcome.TheVariants.{Done, Refused}
-use Rattle.key.specs.declared.Refusal.TheVariants.{BadDomain, Edition, EscapeTag, CopyMask, BlockSizes}
-use Rattle.key.specs.declared.Refusal.TheVariants.{MalformedLayout, OutsideMemory, Overlap, MemoryLength}
-use Rattle.key.specs.Numbers.{refuse, then}
+use Rattle.key.specs.Numbers.{Outcome, layout_refusal, refuse, then}
+use Rattle.key.specs.declared.refusal.Refusal.TheVariants.{BadDomain, Edition, EscapeTag, CopyMask, BlockSizes}
+use Rattle.key.specs.declared.refusal.Refusal.TheVariants.{MemoryLength}
 
 -- A lent memory has at most 16,777,216 bytes.
 abbrev pub memory_limit : ℕ
@@ -105,14 +102,12 @@ signature_answer s =
     (refuse (bad_editions s) Edition
     (refuse (bad_escape_tags s) EscapeTag
     (refuse (bad_copy_mask s) CopyMask
-    (refuse (unlike_sizes s) BlockSizes Done))))
+    (refuse (unlike_sizes s) BlockSizes (Ok tt)))))
 
 -- Answers 5 to 7.
-abbrev pub layout_answer : (verdict : Verdict) → Outcome
-layout_answer Sound = Done
-layout_answer Malformed = Refused MalformedLayout
-layout_answer Outside = Refused OutsideMemory
-layout_answer Overlapping = Refused Overlap
+abbrev pub layout_answer : (verdict : Result ⊤ LayoutError) → Outcome
+layout_answer (Ok tt) = Ok tt
+layout_answer (Err e) = Err (layout_refusal e)
 
 -- Configure's answer for a memory of this length: 8, then 1, 20, 2, 3 and 4, then 5 to 7.
 unfoldable pub configure_answer : (memory_length : ℕ) (c : Configuration) → Outcome

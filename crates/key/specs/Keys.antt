@@ -7,23 +7,19 @@
 --   check_result k                         what check returns
 --   CameFromCalls k                       the key came from these calls: 01's one premise
 --   NeverConfiguredZeros                  check returns zeros on a key that was never configured
---   accepts outcome                       the outcome is Done
+--   accepts outcome                       the outcome is Ok
 --   fields_valid, key_valid, KeyValid       the precondition of the calls, which every key from these calls meets
-use Rattle.std.specs.Prelude.{◌≡◌, Bool, true, false, ◌&&◌, ◌||◌, not, ℕ, ltb, replicate}
+use Rattle.std.specs.Prelude.{◌≡◌, Bool, true, false, ◌&&◌, ◌||◌, not, ℕ, ltb, replicate, None, Ok, Err}
 use Rattle.field.specs.Domains.{unsigned_domain}
 use Rattle.layout.specs.declared.Layout.{Layout}
 use Rattle.layout.specs.Pieces.{entries_max}
 use Rattle.layout.specs.Answers.{fits}
-use Rattle.slot.specs.declared.Slot.{Slot}
-use Rattle.slot.specs.declared.Slot.TheVariants.{Empty}
-use Rattle.slot.specs.Slots.{no_error, error_numbers}
+use Rattle.slot.specs.Slots.{Slot, no_error, error_numbers}
 use Rattle.key.specs.declared.Signature.{Signature}
 use Rattle.key.specs.declared.Configuration.{Configuration}
-use Rattle.key.specs.declared.ConfigureResult.{ConfigureResult}
-use Rattle.key.specs.declared.CheckResult.{CheckResult}
+use Rattle.slot.specs.declared.ErrorNumbers.{ErrorNumbers}
 use Rattle.key.specs.declared.Key.{Key}
-use Rattle.key.specs.declared.Outcome.{Outcome}
-use Rattle.key.specs.declared.Outcome.TheVariants.{Done, Refused}
+use Rattle.key.specs.Numbers.{Outcome}
 use Rattle.key.specs.Configuring.{memory_limit, signature_answer, configure_answer}
 
 -- No signature on either side, and zeros.
@@ -51,7 +47,7 @@ fresh_key = record {
   memory_length = 0;
   layout = no_layout;
   signature = no_signature;
-  slot = Empty;
+  slot = None;
 }
 
 -- The key with another slot.
@@ -74,10 +70,20 @@ configured_key k memory_length c = record {
   slot = k.slot;
 }
 
+-- What configure returns, and the key after it.
+pub record ConfigureResult : Type 0 where
+  pub outcome : Outcome
+  pub key : Key
+
+-- What check returns, and the key after it.
+pub record CheckResult : Type 0 where
+  pub error : ErrorNumbers
+  pub key : Key
+
 -- What configure returns for an outcome: a refused configure returns the key as it was.
 abbrev pub configure_result_by : (outcome : Outcome) (k : Key) (memory_length : ℕ) (c : Configuration) → ConfigureResult
-configure_result_by Done k memory_length c = record { outcome = Done; key = configured_key k memory_length c }
-configure_result_by (Refused r) k memory_length c = record { outcome = Refused r; key = k }
+configure_result_by (Ok tt) k memory_length c = record { outcome = Ok tt; key = configured_key k memory_length c }
+configure_result_by (Err r) k memory_length c = record { outcome = Err r; key = k }
 
 -- What configure returns over a memory of this length.
 abbrev pub configure_result : (k : Key) (memory_length : ℕ) (c : Configuration) → ConfigureResult
@@ -85,23 +91,23 @@ configure_result k memory_length c = configure_result_by (configure_answer memor
 
 -- What check returns: the numbers of the slot, zeros if it is empty, and the key with its slot emptied.
 unfoldable pub check_result : (k : Key) → CheckResult
-check_result k = record { error = error_numbers k.slot; key = with_slot k Empty }
+check_result k = record { error = error_numbers k.slot; key = with_slot k None }
 
 -- "Came from these calls": the key was never configured and its slot is empty, or configure accepts its fields.
 pub record CameFromCalls (k : Key) : Type 0 where
-  pub never : k.configured ≡ false → k.slot ≡ Empty
+  pub never : k.configured ≡ false → k.slot ≡ None
   pub accepted :
       k.configured ≡ true
-      → configure_answer k.memory_length (record { signature = k.signature; layout = k.layout }) ≡ Done
+      → configure_answer k.memory_length (record { signature = k.signature; layout = k.layout }) ≡ Ok tt
 
 -- 01: "Check on a key never configured answers four zeros". By 02, request 6, they are five.
 abbrev pub NeverConfiguredZeros : Type 0
 NeverConfiguredZeros = (k : Key) → CameFromCalls k → k.configured ≡ false → (check_result k).error ≡ no_error
 
--- The outcome is Done.
+-- The outcome is Ok.
 abbrev pub accepts : (outcome : Outcome) → Bool
-accepts Done = true
-accepts (Refused r) = false
+accepts (Ok tt) = true
+accepts (Err r) = false
 
 -- If a key is configured, its memory is within the limit, its signature is accepted, and its layout fits the memory.
 abbrev pub fields_valid : (configured : Bool) (memory_length : ℕ) (s : Signature) (l : Layout) → Bool

@@ -7,11 +7,12 @@ ghost use Rattle.key.specs.Admitting as admitting;
 ghost use Rattle.key.specs.Inner.Admission.{Bounded};
 ghost use Rattle.key.specs.Keys.{KeyValid};
 
-use crate::{Key, Outcome, Refusal};
+use crate::{Key, Refusal};
 use field::{Domain, FIELD_SIZE};
 use layout::{Layout, LayoutOffset};
 
 // Returns the length of a domain's stream: the data, and a field after each block if the domain is signed.
+#[tactic(auto, unfolding(crate::specs::Streams::stream_length))]
 pub fn stream_length(d: Domain, data_length: u64) -> u64
     requires { Measured d data_length }
     ensures { result ≡ stream_length d data_length }
@@ -37,6 +38,7 @@ fn partial(d: Domain, data_length: u64) -> bool
 
 // True if answer 10 applies. The data length is compared before fields are added to it, and the offset with what the
 // stream leaves of the layout, so that no sum wraps.
+#[tactic(auto, using(crate::proofs::Laws::data_in_stream))]
 fn past(l: Layout, d: Domain, offset: LayoutOffset, data_length: u64) -> bool
     requires bounded { Bounded l }
     requires sized { Sized d }
@@ -53,49 +55,51 @@ fn past(l: Layout, d: Domain, offset: LayoutOffset, data_length: u64) -> bool
     total - stream < offset.number()
 }
 
-// Returns the first of answers 14, 8, 9 and 10 that applies, or Done.
-#[tactic(auto, unfolding(crate::specs::Admitting::open_answer))]
-pub fn admit(key: Key, memory_length: u64, offset: LayoutOffset, data_length: u64) -> Outcome
-    requires { KeyValid key }
-    ensures { result ≡ admitting.open_answer key memory_length offset.0 data_length }
-{
-    if !key.configured {
-        return Outcome::Refused(Refusal::NotConfigured);
-    }
-    if memory_length != key.memory_length {
-        return Outcome::Refused(Refusal::MemoryLength);
-    }
-    let signature = key.signature;
-    if partial(signature.memory, data_length) | partial(signature.wire, data_length) {
-        return Outcome::Refused(Refusal::PartialBlock);
-    }
-    if past(key.layout, signature.memory, offset, data_length) {
-        return Outcome::Refused(Refusal::PastLayout);
-    }
-    Outcome::Done
-}
-
-// Returns the first of answers 14, 8, 9, 10 and 11 that applies, or Done.
-pub fn admit_transfer(
-    key: Key,
-    memory: &[u8],
-    wire: &[u8],
-    offset: LayoutOffset,
-    data_length: u64,
-) -> Outcome
-    requires { KeyValid key }
-    ensures { result ≡ admitting.transfer_answer key (length memory.now) offset.0 data_length (length wire.now) }
-{
-    let outcome = admit(key, memory.len() as u64, offset, data_length);
-    match outcome {
-        Outcome::Done => {
-            let signature = key.signature;
-            if (wire.len() as u64) < stream_length(signature.wire, data_length) {
-                Outcome::Refused(Refusal::ShortWire)
-            } else {
-                Outcome::Done
-            }
+impl Key {
+    // Refuses an open with the first of answers 14, 8, 9 and 10 that applies.
+    #[tactic(auto, unfolding(crate::specs::Admitting::open_answer), using(crate::proofs::Laws::memory_sized, crate::proofs::Laws::wire_sized))]
+    pub fn admit(
+        &self,
+        memory_length: u64,
+        offset: LayoutOffset,
+        data_length: u64,
+    ) -> Result<(), Refusal>
+        requires { KeyValid self.now }
+        ensures { result ≡ admitting.open_answer self.now memory_length offset.0 data_length }
+    {
+        if !self.configured {
+            return Err(Refusal::NotConfigured);
         }
-        Outcome::Refused(r) => Outcome::Refused(r),
+        if memory_length != self.memory_length {
+            return Err(Refusal::MemoryLength);
+        }
+        let signature = self.signature;
+        if partial(signature.memory, data_length) | partial(signature.wire, data_length) {
+            return Err(Refusal::PartialBlock);
+        }
+        if past(self.layout, signature.memory, offset, data_length) {
+            return Err(Refusal::PastLayout);
+        }
+        Ok(())
+    }
+
+    // Refuses a transfer with the first of answers 14, 8, 9, 10 and 11 that applies.
+    #[tactic(auto, unfolding(crate::specs::Admitting::transfer_answer), using(crate::proofs::Laws::wire_measured))]
+    pub fn admit_transfer(
+        &self,
+        memory: &[u8],
+        wire: &[u8],
+        offset: LayoutOffset,
+        data_length: u64,
+    ) -> Result<(), Refusal>
+        requires { KeyValid self.now }
+        ensures { result ≡ admitting.transfer_answer self.now (length memory.now) offset.0 data_length (length wire.now) }
+    {
+        self.admit(memory.len() as u64, offset, data_length)?;
+        let signature = self.signature;
+        if (wire.len() as u64) < stream_length(signature.wire, data_length) {
+            return Err(Refusal::ShortWire);
+        }
+        Ok(())
     }
 }

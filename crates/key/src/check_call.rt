@@ -3,40 +3,25 @@ ghost use Rattle.std.specs.Prelude.{◌≡◌, true};
 ghost use Rattle.key.specs.Keys as keys;
 ghost use Rattle.slot.specs.Slots as slots;
 
-use crate::{CheckResult, Key};
-use slot::Slot;
+use crate::Key;
+use slot::{ErrorNumbers, Slot};
 
-fn with_slot(key: Key, slot: Slot) -> Key
-    ensures { result ≡ keys.with_slot key slot }
-{
-    let layout = key.layout;
-    let signature = key.signature;
-    Key {
-        configured: key.configured,
-        memory_length: key.memory_length,
-        layout,
-        signature,
-        slot,
+impl Key {
+    // Returns the numbers of the recorded error, zeros if there is none, and empties the slot.
+    #[tactic(auto, unfolding(crate::specs::Keys::check_result))]
+    pub fn check(&mut self) -> ErrorNumbers
+        ensures error { result ≡ (keys.check_result self.old).error }
+        ensures key_after { self.new ≡ (keys.check_result self.old).key }
+    {
+        ErrorNumbers::from(self.slot.take())
     }
-}
 
-// Returns the numbers of the recorded error, zeros if there is none, and the key with its slot emptied.
-pub fn check(key: Key) -> CheckResult
-    ensures { result ≡ keys.check_result key }
-{
-    let slot = key.slot;
-    CheckResult {
-        error: slot::error_numbers(slot),
-        key: with_slot(key, Slot::Empty),
+    // Records the error of a transfer, unless the slot held an error before. A key that was never configured transfers
+    // nothing and holds no error.
+    pub fn keep_error(&mut self, found: Slot)
+        requires { self.old.configured ≡ true }
+        ensures { self.new ≡ keys.with_slot self.old (slots.keep self.old.slot found) }
+    {
+        self.slot = self.slot.or(found);
     }
-}
-
-// Returns the key with the error of a transfer in its slot, unless the slot held an error before. A key that was never
-// configured transfers nothing and holds no error.
-pub fn keep_error(key: Key, found: Slot) -> Key
-    requires { key.configured ≡ true }
-    ensures { result ≡ keys.with_slot key (slots.keep key.slot found) }
-{
-    let slot = key.slot;
-    with_slot(key, slot::keep(slot, found))
 }

@@ -4,22 +4,20 @@
 #![tactic(auto)]
 
 mod admission;
-mod answer_numbers;
 mod check_call;
 mod configure_call;
+mod refusal;
 mod signature_rules;
 mod validate;
 
 ghost use Rattle.std.specs.Prelude.{◌≡◌};
 ghost use Rattle.key.specs.Keys.{fresh_key};
 
-pub use admission::{admit, admit_transfer, stream_length};
-pub use answer_numbers::number;
-pub use check_call::{check, keep_error};
-pub use configure_call::configure;
+pub use admission::stream_length;
 use field::Domain;
 use layout::{ENTRIES_MAX, Entry, Layout, MemoryOffset};
-use slot::{ErrorNumbers, Slot};
+pub use refusal::{Refusal, number};
+use slot::Slot;
 pub use validate::fields_valid;
 
 // A lent memory has at most 16,777,216 bytes.
@@ -28,49 +26,9 @@ const MEMORY_LIMIT: u64 = 16777216;
 // The attribute flag under which the configured copy mask is used.
 const COPY_MASK_GIVEN: u32 = 1;
 
-// A refusal for each number of 01's table.
-#[derive(Clone, Copy)]
-pub enum Refusal {
-    // 1: a domain's numbers or the attribute flags are bad.
-    BadDomain,
-    // 2: a domain with an escape flag has the application tag that escapes.
-    EscapeTag,
-    // 3: a copy mask is given, but not two signatures of one block size.
-    CopyMask,
-    // 4: two signatures have different block sizes.
-    BlockSizes,
-    // 5: the layout has a wrong number of entries, repeats or bytes.
-    MalformedLayout,
-    // 6: a piece ends beyond the memory.
-    OutsideMemory,
-    // 7: two pieces share a byte.
-    Overlap,
-    // 8: the memory is above the limit, or of another length than configured.
-    MemoryLength,
-    // 9: the data length is not a multiple of a block size.
-    PartialBlock,
-    // 10: the memory stream ends beyond the layout.
-    PastLayout,
-    // 11: the wire buffer is shorter than the wire stream.
-    ShortWire,
-    // 12: the packet is longer than the wire bytes still to come.
-    LongPacket,
-    // 13: finish is called before all wire bytes have come.
-    BytesToCome,
-    // 14: the key was never configured.
-    NotConfigured,
-    // 20: a domain's edition is neither 1 nor 2, or it is 2 and the block size is not a multiple of 512.
-    Edition,
-}
-
-#[derive(Clone, Copy)]
-pub enum Outcome {
-    Done,
-    Refused(Refusal),
-}
-
-// Both domains, and which field bytes are checked and copied. The card's manual calls this a signature.
-#[derive(Clone, Copy)]
+// Both domains, and which field bytes are checked and copied. The card's manual calls this a signature. By default
+// neither domain is signed.
+#[derive(Clone, Copy, Debug, Default, PartialEq, Eq)]
 pub struct Signature {
     pub memory: Domain,
     pub wire: Domain,
@@ -85,7 +43,9 @@ pub struct Configuration {
     pub layout: Layout,
 }
 
-// Each call takes a key by value and returns the one to go on with.
+// A key that was never configured has numbers beside `configured` too, not an Option of them: a C struct holds them, and
+// garoalva_check returns them as they were. `KeyValid` is no invariant of the type: configure, check and the conversion
+// from C take keys of which it is false.
 #[derive(Clone, Copy)]
 pub struct Key {
     pub configured: bool,
@@ -95,47 +55,27 @@ pub struct Key {
     pub slot: Slot,
 }
 
-// What configure returns: the key is unchanged if the outcome is a refusal.
-#[derive(Clone, Copy)]
-pub struct ConfigureResult {
-    pub outcome: Outcome,
-    pub key: Key,
-}
-
-// What check returns: the numbers of the recorded error, and the key with its slot emptied.
-#[derive(Clone, Copy)]
-pub struct CheckResult {
-    pub error: ErrorNumbers,
-    pub key: Key,
-}
-
-// Returns a key that was never configured.
-pub fn fresh() -> Key
-    ensures { result ≡ fresh_key }
-{
-    let none = field::unsigned_domain();
-    let entry = Entry {
-        start: MemoryOffset::new(0),
-        count: 0,
-        skip: 0,
-    };
-    let signature = Signature {
-        memory: none,
-        wire: none,
-        attribute_flags: 0,
-        check_mask: 0,
-        copy_mask: 0,
-    };
-    let layout = Layout {
-        entries: [entry; ENTRIES_MAX],
-        used: 0,
-        repeat: 0,
-    };
-    Key {
-        configured: false,
-        memory_length: 0,
-        layout,
-        signature,
-        slot: Slot::Empty,
+impl Key {
+    // Returns a key that was never configured.
+    pub fn fresh() -> Self
+        ensures { result ≡ fresh_key }
+    {
+        let entry = Entry {
+            start: MemoryOffset::new(0),
+            count: 0,
+            skip: 0,
+        };
+        let layout = Layout {
+            entries: [entry; ENTRIES_MAX],
+            used: 0,
+            repeat: 0,
+        };
+        Key {
+            configured: false,
+            memory_length: 0,
+            layout,
+            signature: Signature::default(),
+            slot: None,
+        }
     }
 }

@@ -3,10 +3,10 @@ ghost use Rattle.std.specs.Prelude.{◌≡◌};
 ghost use Rattle.key.specs.Configuring as answers;
 ghost use Rattle.key.specs.Keys.{accepts};
 
-use crate::{COPY_MASK_GIVEN, Outcome, Refusal, Signature};
+use crate::{COPY_MASK_GIVEN, Refusal, Signature};
 use field::{
     BLOCK_SIZE_MAX, BLOCK_SIZE_MIN, BLOCK_SIZE_STEP, Domain, EDITION_1, EDITION_2,
-    ESCAPE_APPLICATION_TAG, FLAGS_MAX, GUARD_TYPE_MAX, SECTOR_SIZE, SEED_ONES, T10_DIF,
+    ESCAPE_APPLICATION_TAG, FLAGS_MAX, Flag, GUARD_TYPE_MAX, SECTOR_SIZE, SEED_ONES, T10_DIF,
 };
 
 // True if answer 1 applies to this domain.
@@ -18,7 +18,8 @@ fn bad_domain(d: Domain) -> bool
     let size = (d.block_size % BLOCK_SIZE_STEP != 0) | (too_small | too_large);
     let guard = GUARD_TYPE_MAX < d.guard_type;
     let seed = (d.seed != 0) & (d.seed != SEED_ONES);
-    let both_escapes = field::escapes_by_application(d) & field::escapes_by_both(d);
+    let both_escapes = field::has_flag(d, Flag::EscapeByApplication)
+        & field::has_flag(d, Flag::EscapeByBoth);
     let flags = (FLAGS_MAX < d.flags) | both_escapes;
     (T10_DIF < d.kind) | (field::signed(d) & (size | (guard | (seed | flags))))
 }
@@ -36,7 +37,8 @@ fn bad_edition(d: Domain) -> bool
 fn escapes_always(d: Domain) -> bool
     ensures { result ≡ answers.escapes_always d }
 {
-    let escapes = field::escapes_by_application(d) | field::escapes_by_both(d);
+    let escapes = field::has_flag(d, Flag::EscapeByApplication)
+        | field::has_flag(d, Flag::EscapeByBoth);
     field::signed(d) & (escapes & (d.application_tag == ESCAPE_APPLICATION_TAG))
 }
 
@@ -47,7 +49,8 @@ fn bad_domains(s: Signature) -> bool
     bad_domain(s.memory) | (bad_domain(s.wire) | (COPY_MASK_GIVEN < s.attribute_flags))
 }
 
-// True if answer 20 applies to a domain.
+// True if answer 20 applies to a domain. This function and the next name both domains: one that took the test of a domain
+// as an argument would be as long.
 fn bad_editions(s: Signature) -> bool
     ensures { result ≡ answers.bad_editions s }
 {
@@ -89,31 +92,33 @@ fn unlike_sizes(s: Signature) -> bool
     both_signed(s) & !same_size(s)
 }
 
-// Returns the first of answers 1, 20, 2, 3 and 4 that applies.
-pub(crate) fn signature_answer(s: Signature) -> Outcome
+// Refuses with the first of answers 1, 20, 2, 3 and 4 that applies.
+#[tactic(auto, unfolding(crate::specs::Configuring::signature_answer))]
+pub(crate) fn signature_answer(s: Signature) -> Result<(), Refusal>
     ensures { result ≡ answers.signature_answer s }
 {
     if bad_domains(s) {
-        return Outcome::Refused(Refusal::BadDomain);
+        return Err(Refusal::BadDomain);
     }
     if bad_editions(s) {
-        return Outcome::Refused(Refusal::Edition);
+        return Err(Refusal::Edition);
     }
     if bad_escape_tags(s) {
-        return Outcome::Refused(Refusal::EscapeTag);
+        return Err(Refusal::EscapeTag);
     }
     if bad_copy_mask(s) {
-        return Outcome::Refused(Refusal::CopyMask);
+        return Err(Refusal::CopyMask);
     }
     if unlike_sizes(s) {
-        return Outcome::Refused(Refusal::BlockSizes);
+        return Err(Refusal::BlockSizes);
     }
-    Outcome::Done
+    Ok(())
 }
 
 // True if none of answers 1, 20, 2, 3 and 4 applies. A call of the C API tests this of each configured key that it is
 // given, alone or in a session. `signature_answer` has another caller, so the compiler would not join it with that
 // test: it would copy the signature twice, and packets without signatures would take a tenth longer.
+#[tactic(auto, unfolding(crate::specs::Configuring::signature_answer), using(crate::proofs::Laws::accepts_refuse, crate::proofs::Laws::accepts_last))]
 pub(crate) fn signature_accepted(s: Signature) -> bool
     ensures { result ≡ accepts (answers.signature_answer s) }
 {

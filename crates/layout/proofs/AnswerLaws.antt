@@ -1,25 +1,32 @@
 -- Laws about answers 5, 6 and 7: what the loops that search for them find, and what holds of a layout to which none of
 -- them applies.
 use mathlib.Core.Path.{◌≡◌, refl, ap, sym, ◌∙◌}
-use mathlib.Core.Bool.{Bool, true, false, not, ◌||◌, cond}
+use mathlib.Core.Bool.{Bool, true, false, not, ◌||◌, ◌&&◌, cond}
 use mathlib.Core.List.{List, [], ◌∷◌, ◌++◌, map}
-use Prim.Native.Nat.{ℕ, zero, suc, ◌+◌, ◌*◌, ◌-◌, ◌/◌, ◌%◌, ◌^◌, ◌<◌, ◌≤◌, min, max}
-use native.Mathlib.Nat.{zero-add, zero-mul, suc-mul, mul_comm, mul-le-mul, mul-le-mul_right, mod-lt, div-add-mod', div-lt_iff_lt-mul}
+use Prim.Native.Nat.{ℕ, zero, suc, ◌+◌, ◌*◌, ◌-◌, ◌/◌, ◌%◌, ◌<◌, ◌≤◌, min, max}
+use native.Mathlib.Nat.{zero-add, zero-mul, suc-mul, mul_comm, mul-le-mul_right, mod-lt, div-add-mod', div-lt_iff_lt-mul}
 use native.Mathlib.Numerals.{add-one}
 use native.Mathlib.Omega.{arith}
-use borrow.Author.Tests.{lt-ltb, le-ltb, ltb-true, ltb-false, leb-true, leb-false, eq-eqb, ne_eqb, eqb-false}
+use borrow.Author.Tests.{lt-ltb, ltb-true, ltb-false}
 use lib.Dec.{ltb, leb, eqb}
-use lib.ListN.{length, take, drop, get_or, length-append, length-take, length-map, drop_of_length-le, get_or-append}
+use lib.ListN.{length, get_or, length-append, length-map, get_or-append}
 use lib.Seq.{length-take-le, get_or-take, get_or-append-add}
+use Rattle.std.specs.List.{list_any, list_all}
+use Rattle.std.proofs.lemmas.List.Folds.{list_any-append, list_any_at, list_all_at}
+use Rattle.std.proofs.lemmas.Bool.Decides.{nat_tests}
+use Rattle.std.proofs.Math.Bool.{and-true}
+use Rattle.std.proofs.lemmas.List.Recursion.{same_from_clauses, and_from_places, or_from_places}
 use Rattle.layout.specs.declared.Entry.{Entry}
 use Rattle.layout.specs.declared.Layout.{Layout}
-use Rattle.layout.specs.declared.layout_rules.Verdict.TheVariants.{Sound, Malformed, Outside, Overlapping}
+use Rattle.std.specs.Prelude.{Result, Ok, Err}
+use Rattle.layout.specs.declared.layout_rules.LayoutError.{LayoutError}
+use Rattle.layout.specs.declared.layout_rules.LayoutError.TheVariants.{Malformed, Outside, Overlapping}
 use Rattle.layout.specs.declared.layout_rules.Extent.{Extent}
 use Rattle.layout.specs.Pieces.{Piece, piece_end, piece_of, in_use, repeats, pieces, span, total, numbers_from, places_of, places}
 use Rattle.layout.specs.Moves.{Within, Placed, Distinct, Below}
-use Rattle.layout.specs.Answers.{some_count_zero, counts_bad, malformed, some_beyond, span_within, share, shares_with, some_share, verdict_on, fits}
-use Rattle.layout.specs.Inner.Steps.{no_entry, Shaped, Fits, Spans, no_piece}
-use Rattle.layout.proofs.PieceLaws.{size-repeats, in_use_from, length_from, get_d_from}
+use Rattle.layout.specs.Answers.{some_count_zero, counts_bad, malformed, some_beyond, share, shares_with, some_share, verdict_on, fits}
+use Rattle.layout.specs.Inner.Steps.{no_entry, entry_fits, Shaped, Fits, Spans, no_piece, Apart}
+use Rattle.layout.proofs.PieceLaws.{size-repeats, length_from, get_d_from}
 
 pub or_true : (a : Bool) → a || true ≡ true
 or_true true = refl
@@ -27,58 +34,15 @@ or_true false = refl
 
 -- If a disjunction is false, both its sides are.
 pub or_false : (a b : Bool) → a || b ≡ false → (a ≡ false) × (b ≡ false)
-or_false true b h = let z : ◌≡◌ {A = ℕ} 0 1 = cc in absurd (omega arith)
+or_false true b h = cc
 or_false false b h = (refl, h)
-
--- ---- answer 5: the search for a count of 0
-
--- If entry i is empty, the search from entry i on finds an empty entry.
-pub empty_here : (u : ℕ) (es : List Entry) (i : ℕ) → i < u → u ≤ length es → (get_or es i no_entry).count ≡ 0 → some_count_zero (drop i (take u es)) ≡ true
-unfolding some_count_zero
-empty_here u es i h n e = rw (in_use_from u es i h n, eq-eqb (get_or es i no_entry).count 0 e)
-
--- If entry i is not empty, the search from entry i on has the result of the search from entry i + 1 on.
-pub empty_next :
-    (u : ℕ) (es : List Entry) (i : ℕ)
-    → i < u
-    → u ≤ length es
-    → ((get_or es i no_entry).count ≡ 0 → ⊥)
-    → some_count_zero (drop i (take u es)) ≡ some_count_zero (drop (i + 1) (take u es))
-unfolding some_count_zero
-empty_next u es i h n e = rw (in_use_from u es i h n, ne_eqb (get_or es i no_entry).count 0 e)
-
--- After the last used entry the search finds no empty entry.
-pub empty_all : (u : ℕ) (es : List Entry) (i : ℕ) → u ≤ i → some_count_zero (drop i (take u es)) ≡ false
-unfolding some_count_zero
-empty_all u es i h = rw (drop_of_length-le (take u es) {i = i} (omega (arith, length-take u es)))
 
 -- ---- answer 6: the search for a piece that ends beyond the memory
 
--- The code subtracts the start from the memory's length instead of adding it on the other side, and its test has the
--- same result.
-pub less_start : (n s a c : ℕ) → s ≤ n → ltb (n - s) (a + c) ≡ ltb n (s + a + c)
-less_start n s a c h = go (ltb (n - s) (a + c)) refl
-  where
-    go : (b : Bool) → ltb (n - s) (a + c) ≡ b → b ≡ ltb n (s + a + c)
-    go true e = sym (lt-ltb n (s + a + c) (omega (arith, ltb-true (n - s) (a + c) e)))
-    go false e = sym (le-ltb n (s + a + c) (omega (arith, ltb-false (n - s) (a + c) e)))
-
--- No sum or product in the code's test wraps in 64 bits.
-pub extent_fits : (r c s : ℕ) → r < 1024 → c < 2 ^ 32 → s < 2 ^ 32 → r * (c + s) + c < 2 ^ 64
-extent_fits r c s hr hc hs = omega (arith, mul-le-mul {n₁ = r} {m₁ = c + s} {n₂ = 1023} {m₂ = 8589934590} (omega arith) (omega arith))
-
--- A piece of two joined lists ends beyond the memory exactly if a piece of one of the lists does.
-pub beyond_append : (n : ℕ) (ps qs : List Piece) → some_beyond n (ps ++ qs) ≡ some_beyond n ps || some_beyond n qs
+-- A piece of a repeat ends beyond the memory exactly if that of one of the entries does.
+beyond_repeat : (n r : ℕ) (es : List Entry) → list_any (λ (e : Entry). ltb n (piece_end (piece_of r e))) es ≡ some_beyond n (map (piece_of r) es)
 unfolding some_beyond
-beyond_append n [] qs = refl
-beyond_append n (p ∷ ps) qs = go (ltb n (piece_end p)) (beyond_append n ps qs)
-  where
-    go :
-        (b : Bool)
-        → some_beyond n (ps ++ qs) ≡ some_beyond n ps || some_beyond n qs
-        → b || some_beyond n (ps ++ qs) ≡ (b || some_beyond n ps) || some_beyond n qs
-    go true e = refl
-    go false e = e
+beyond_repeat n r es = same_from_clauses (λ (es : List Entry). list_any (λ (e : Entry). ltb n (piece_end (piece_of r e))) es) (λ (es : List Entry). list_any (λ (p : Piece). ltb n (piece_end p)) (map (piece_of r) es)) (λ (e : Entry) (b : Bool). ltb n (piece_end (piece_of r e)) || b) refl (λ _ _. refl) (λ _ _. refl) es
 
 -- A later repeat of an entry ends no earlier.
 pub end_later : (r k : ℕ) (e : Entry) → r ≤ k → piece_end (piece_of r e) ≤ piece_end (piece_of k e)
@@ -99,6 +63,10 @@ beyond_later n r k (e ∷ es) h t = go (ltb n (piece_end (piece_of r e))) refl t
     go true b t f = rw (lt-ltb n (piece_end (piece_of k e)) (omega (arith, ltb-true n (piece_end (piece_of r e)) b, end_later r k e h)))
     go false b t f = rw (f t) (or_true (ltb n (piece_end (piece_of k e))))
 
+-- A piece ends beyond the memory.
+abbrev beyond : ℕ → Piece → Bool
+beyond n p = ltb n (piece_end p)
+
 -- The last of several repeats alone decides whether one of their pieces ends beyond the memory.
 pub beyond_last : (n : ℕ) (es : List Entry) (r m : ℕ) → some_beyond n (repeats es r (m + 1)) ≡ some_beyond n (map (piece_of (r + m)) es)
 unfolding repeats some_beyond
@@ -115,60 +83,23 @@ beyond_last n es r m = rw add-one (go r m)
     go : (r m : ℕ) → some_beyond n (repeats es r (suc m)) ≡ some_beyond n (map (piece_of (r + m)) es)
     go r zero =
         let f : r + zero ≡ r = omega arith in
-        rw f (beyond_append n (map (piece_of r) es) [] ∙ none_more (some_beyond n (map (piece_of r) es)))
+        rw f (list_any-append (beyond n) (map (piece_of r) es) [] ∙ none_more (some_beyond n (map (piece_of r) es)))
     go r (suc m) =
         let f : r + suc m ≡ suc r + m = omega arith in
         rw f
-        (beyond_append n (map (piece_of r) es) (repeats es (suc r) (suc m)) ∙ ap (λ (b : Bool). some_beyond n (map (piece_of r) es) || b) (go (suc r) m)
+        (list_any-append (beyond n) (map (piece_of r) es) (repeats es (suc r) (suc m)) ∙ ap (λ (b : Bool). some_beyond n (map (piece_of r) es) || b) (go (suc r) m)
         ∙ both (some_beyond n (map (piece_of r) es)) (some_beyond n (map (piece_of (suc r + m)) es)) (λ t. beyond_later n r (suc r + m) es (omega arith) t))
 
 -- The last repeat of a layout alone decides whether one of its pieces ends beyond the memory.
-pub beyond_pieces : (n : ℕ) (l : Layout) → 0 < l.repeat → some_beyond n (map (piece_of (l.repeat - 1)) (in_use l)) ≡ some_beyond n (pieces l)
+pub beyond_pieces :
+    (n : ℕ) (l : Layout) → 0 < l.repeat
+    → list_any (λ (e : Entry). ltb n (piece_end (piece_of (l.repeat - 1) e))) (in_use l) ≡ some_beyond n (pieces l)
 beyond_pieces n l h =
     let e : l.repeat - 1 + 1 ≡ l.repeat = omega arith in
-    sym (ap (λ (r : ℕ). some_beyond n (map (piece_of r) (in_use l))) (zero-add (l.repeat - 1)))
+    beyond_repeat n (l.repeat - 1) (in_use l)
+    ∙ sym (ap (λ (r : ℕ). some_beyond n (map (piece_of r) (in_use l))) (zero-add (l.repeat - 1)))
     ∙ sym (beyond_last n (in_use l) 0 (l.repeat - 1))
     ∙ ap (λ (m : ℕ). some_beyond n (repeats (in_use l) 0 m)) e
-
--- A layout with an entry and at most 1,024 pieces has at most 1,024 repeats.
-pub few_repeats : (u r : ℕ) → 0 < u → u * r ≤ 1024 → r ≤ 1024
-few_repeats u r h f = omega (arith, mul-le-mul_right r h)
-
--- If entry i of repeat r ends beyond the memory, the search from entry i on finds such a piece.
-pub beyond_here :
-    (n r u : ℕ) (es : List Entry) (i : ℕ) → i < u → ltb n (piece_end (piece_of r (get_or es i no_entry))) ≡ true → some_beyond n (map (piece_of r) (drop i (take u es))) ≡ true
-unfolding some_beyond
-beyond_here n r zero es i h e = absurd (omega arith)
-beyond_here n r (suc u) [] zero h e = absurd (omega (arith, ltb-true n (piece_end (piece_of r no_entry)) e))
-beyond_here n r (suc u) [] (suc i) h e = absurd (omega (arith, ltb-true n (piece_end (piece_of r no_entry)) e))
-beyond_here n r (suc u) (x ∷ es) zero h e = rw e
-beyond_here n r (suc u) (x ∷ es) (suc i) h e = beyond_here n r u es i (omega arith) e
-
--- If entry i of repeat r ends within the memory, the search from entry i on has the result of the search from entry i +
--- 1 on.
-pub beyond_next :
-    (n r u : ℕ) (es : List Entry) (i : ℕ)
-    → i < u
-    → ltb n (piece_end (piece_of r (get_or es i no_entry))) ≡ false
-    → some_beyond n (map (piece_of r) (drop i (take u es))) ≡ some_beyond n (map (piece_of r) (drop (i + 1) (take u es)))
-unfolding some_beyond
-beyond_next n r u es i h e = rw add-one (go u es i h e)
-  where
-    go :
-        (u : ℕ) (es : List Entry) (i : ℕ)
-        → i < u
-        → ltb n (piece_end (piece_of r (get_or es i no_entry))) ≡ false
-        → some_beyond n (map (piece_of r) (drop i (take u es))) ≡ some_beyond n (map (piece_of r) (drop (suc i) (take u es)))
-    go zero es i h e = absurd (omega arith)
-    go (suc u) [] zero h e = refl
-    go (suc u) [] (suc i) h e = refl
-    go (suc u) (x ∷ es) zero h e = rw e
-    go (suc u) (x ∷ es) (suc i) h e = go u es i (omega arith) e
-
--- After the last used entry the search finds no piece that ends beyond the memory.
-pub beyond_all : (n r u : ℕ) (es : List Entry) (i : ℕ) → u ≤ i → some_beyond n (map (piece_of r) (drop i (take u es))) ≡ false
-unfolding some_beyond
-beyond_all n r u es i h = rw (drop_of_length-le (take u es) {i = i} (omega (arith, length-take u es)))
 
 -- If answer 6 does not apply, every piece ends within the memory.
 pub beyond_within : (n : ℕ) (ps : List Piece) → some_beyond n ps ≡ false → Within n ps
@@ -177,60 +108,6 @@ beyond_within n [] h = tt
 beyond_within n (p ∷ ps) h =
     let f = or_false (ltb n (piece_end p)) (some_beyond n ps) h in
     (ltb-false n (piece_end p) f.0, beyond_within n ps f.1)
-
--- ---- the bytes of one repeat, tested and summed in one loop
-
--- `measured n r s es` is s plus the bytes of the entries es that are left of repeat r, or 0 if one of them is empty or
--- ends beyond n bytes of memory.
-abbrev pub measured : ℕ → ℕ → ℕ → List Entry → ℕ
-measured n r s es = cond (some_count_zero es || some_beyond n (map (piece_of r) es)) 0 (s + span es)
-
--- In these laws e is the next entry, and m is what it adds: its count, or 0 if its piece ends beyond the memory.
-module _
-    (n r s : ℕ) (all : List Entry) (e : Entry) (es : List Entry) (left : all ≡ e ∷ es) (m : ℕ) (adds : m ≡ cond (ltb n (piece_end (piece_of r e))) 0 e.count) where
-  -- If the next entry adds 0 bytes, the result is 0.
-  pub measured_none : m ≡ 0 → measured n r s all ≡ 0
-  unfolding some_count_zero some_beyond
-  measured_none z = rw left (go (ltb n (piece_end (piece_of r e))) (sym adds ∙ z))
-    where
-      go :
-          (b : Bool) → cond b 0 e.count ≡ 0
-          → cond ((eqb e.count 0 || some_count_zero es) || (b || some_beyond n (map (piece_of r) es))) 0 (s + span (e ∷ es)) ≡ 0
-      go true z = rw (or_true (eqb e.count 0 || some_count_zero es))
-      go false z = rw (eq-eqb e.count 0 z)
-
-  -- If the next entry adds more than 0 bytes, they are added to the sum, and the entries after it are left.
-  pub measured_next : (m ≡ 0 → ⊥) → measured n r s all ≡ measured n r (s + m) es
-  unfolding some_count_zero some_beyond span
-  measured_next h = rw (left, adds) (go (ltb n (piece_end (piece_of r e))) (rw adds at h))
-    where
-      go :
-          (b : Bool) → (cond b 0 e.count ≡ 0 → ⊥)
-          → cond ((eqb e.count 0 || some_count_zero es) || (b || some_beyond n (map (piece_of r) es))) 0 (s + (e.count + span es))
-          ≡ measured n r (s + cond b 0 e.count) es
-      go true h = absurd (h refl)
-      go false h =
-          let f : s + (e.count + span es) ≡ s + e.count + span es = omega arith in
-          rw (ne_eqb e.count 0 h, f)
-
--- If a layout has one entry, the result is what that entry adds.
-pub measured_one :
-    (n r : ℕ) (all : List Entry) (e : Entry) → all ≡ e ∷ [] → (m : ℕ) → m ≡ cond (ltb n (piece_end (piece_of r e))) 0 e.count → measured n r 0 all ≡ m
-unfolding some_count_zero some_beyond span
-measured_one n r all e one zero adds = measured_none n r 0 all e [] one zero adds refl
-measured_one n r all e one (suc m) adds = measured_next n r 0 all e [] one (suc m) adds (λ z. omega arith) ∙ omega arith
-
--- After the last used entry the result is the sum.
-pub measured_end : (n r s u : ℕ) (es : List Entry) (i : ℕ) → u ≤ i → measured n r s (drop i (take u es)) ≡ s
-unfolding some_count_zero some_beyond span
-measured_end n r s u es i h = rw (drop_of_length-le (take u es) {i = i} (omega (arith, length-take u es))) (omega arith)
-
--- Over all used entries, `measured` of the last repeat is `span_within`, because the last repeat alone decides about
--- answer 6.
-pub measured_all :
-    (n : ℕ) (l : Layout) → 0 < l.repeat
-    → measured n (l.repeat - 1) 0 (in_use l) ≡ span_within l n
-measured_all n l h = rw (beyond_pieces n l h, zero-add (span (in_use l)))
 
 -- ---- answer 7: the search for two pieces that share a byte
 
@@ -311,6 +188,16 @@ piece_number l k e s h =
     ∙ ap (λ (r : ℕ). piece_of r (get_or (in_use l) (k % u) no_entry)) (zero-add (k / u))
     ∙ ap (λ (x : Entry). piece_of (k / u) x) (get_or-take u l.entries (k % u) no_entry rest)
 
+-- If all pieces end in 64 bits, so does the piece that the code computes for piece k.
+pub piece_fits :
+    (l : Layout) (k : ℕ)
+    → length l.entries ≡ 16
+    → Shaped l
+    → Within 18446744073709551615 (pieces l)
+    → k < l.used * l.repeat
+    → piece_end (piece_of (k / l.used) (get_or l.entries (k % l.used) no_entry)) ≤ 18446744073709551615
+piece_fits l k e s w h = rw (piece_number l k e s h) at (within_at 18446744073709551615 (pieces l) k w)
+
 -- Two extents overlap exactly if their pieces share a byte.
 pub meet_share :
     (l : Layout) (k j : ℕ) (p q : Extent) (b : Bool)
@@ -320,53 +207,27 @@ pub meet_share :
     → share (get_or (pieces l) k no_piece) (get_or (pieces l) j no_piece) ≡ b
 meet_share l k j p q b s t e = sym (rw (s.start, s.end, t.start, t.end) at e)
 
--- The inner loop finds a piece from j on that shares a byte with p exactly if piece j does or it finds one from j + 1
--- on.
-with_next : (p : Piece) (ps : List Piece) (j : ℕ) → j < length ps → shares_with p (drop j ps) ≡ share p (get_or ps j no_piece) || shares_with p (drop (j + 1) ps)
-unfolding shares_with
-with_next p ps j h = rw add-one (go ps j h)
-  where
-    go : (ps : List Piece) (j : ℕ) → j < length ps → shares_with p (drop j ps) ≡ share p (get_or ps j no_piece) || shares_with p (drop (suc j) ps)
-    go [] j h = absurd (omega arith)
-    go (q ∷ ps) zero h = refl
-    go (q ∷ ps) (suc j) h = go ps j (omega arith)
+-- If a piece shares a byte with a later one, the search finds two pieces that do.
+pub share_found : (ps : List Piece) (k j : ℕ) → k < j → j < length ps → share (get_or ps k no_piece) (get_or ps j no_piece) ≡ true → some_share ps ≡ true
+unfolding some_share shares_with
+share_found [] k j h h' e = absurd (omega arith)
+share_found (p ∷ ps) k zero h h' e = absurd (omega arith)
+share_found (p ∷ ps) zero (suc j) h h' e = rw (list_any_at (share p) ps j no_piece (omega arith) e)
+share_found (p ∷ ps) (suc k) (suc j) h h' e = rw (share_found ps k j (omega arith) (omega arith) e) (or_true (shares_with p ps))
 
--- If piece j shares a byte with p, the inner loop finds a piece from j on that does.
-pub with_met : (p : Piece) (ps : List Piece) (j : ℕ) → j < length ps → share p (get_or ps j no_piece) ≡ true → shares_with p (drop j ps) ≡ true
-with_met p ps j h e = with_next p ps j h ∙ ap (λ (b : Bool). b || shares_with p (drop (j + 1) ps)) e
-
--- If piece j shares no byte with p, the inner loop from j on has the result of the loop from j + 1 on.
-pub with_passed :
-    (p : Piece) (ps : List Piece) (j : ℕ) → j < length ps → share p (get_or ps j no_piece) ≡ false → shares_with p (drop j ps) ≡ shares_with p (drop (j + 1) ps)
-with_passed p ps j h e = with_next p ps j h ∙ ap (λ (b : Bool). b || shares_with p (drop (j + 1) ps)) e
-
--- After the last piece the inner loop finds none that shares a byte with p.
-pub with_all : (p : Piece) (ps : List Piece) (j : ℕ) → length ps ≤ j → shares_with p (drop j ps) ≡ false
-unfolding shares_with
-with_all p ps j h = rw (drop_of_length-le ps {i = j} h)
-
--- After the last piece the outer loop finds no two pieces that share a byte.
-pub share-all : (ps : List Piece) (k : ℕ) → length ps ≤ k → some_share (drop k ps) ≡ false
-unfolding some_share
-share-all ps k h = rw (drop_of_length-le ps {i = k} h)
-
--- The outer loop finds two pieces from k on that share a byte exactly if piece k shares one with a later piece or it
--- finds two from k + 1 on.
-pub share_next :
-    (ps : List Piece) (k : ℕ) → k < length ps → some_share (drop k ps) ≡ shares_with (get_or ps k no_piece) (drop (k + 1) ps) || some_share (drop (k + 1) ps)
-unfolding some_share
-share_next ps k h = rw add-one (go ps k h)
-  where
-    go : (ps : List Piece) (k : ℕ) → k < length ps → some_share (drop k ps) ≡ shares_with (get_or ps k no_piece) (drop (suc k) ps) || some_share (drop (suc k) ps)
-    go [] k h = absurd (omega arith)
-    go (p ∷ ps) zero h = refl
-    go (p ∷ ps) (suc k) h = go ps k (omega arith)
+-- If no piece shares a byte with a later one, the search finds no two pieces that do.
+pub share_none : (ps : List Piece) → ((k j : ℕ) → k < j → j < length ps → Apart ps k j) → some_share ps ≡ false
+unfolding some_share shares_with
+share_none [] h = refl
+share_none (p ∷ ps) h =
+    rw
+    (or_from_places (list_any (share p)) (share p) refl (λ _ _. refl) ps no_piece (λ j k. h 0 (suc j) (omega arith) (omega arith)))
+    (share_none ps (λ k j a b. h (suc k) (suc j) (omega arith) (omega arith)))
 
 -- ---- what holds of a sound layout
 
 positive : (n : ℕ) → eqb n 0 ≡ false → 0 < n
-positive zero e = absurd (eqb-false 0 0 e refl)
-positive (suc n) e = omega arith
+positive n e = grind (arith, nat_tests)
 
 -- If the search finds no empty entry, every count is above 0.
 counted : (es : List Entry) → some_count_zero es ≡ false → (i : ℕ) → i < length es → 0 < (get_or es i no_entry).count
@@ -391,20 +252,20 @@ shaped l h =
     let n = numbered l.used l.repeat a.0 in
     record { some = n.0; used = n.1; repeat = n.2; few = n.3; counts = counted (in_use l) a.1 }
 
--- The verdict is Sound only if none of the three tests holds.
+-- The verdict is Ok only if none of the three tests holds.
 verdict_sound :
     (a b c : Bool)
-    → cond a Malformed (cond b Outside (cond c Overlapping Sound)) ≡ Sound
+    → ◌≡◌ {A = Result (Unit {0}) LayoutError} (cond a (Err Malformed) (cond b (Err Outside) (cond c (Err Overlapping) (Ok tt)))) (Ok tt)
     → (a ≡ false) × (b ≡ false) × (c ≡ false)
-verdict_sound true b c h = let z : ◌≡◌ {A = ℕ} 0 1 = cc in absurd (omega arith)
-verdict_sound false true c h = let z : ◌≡◌ {A = ℕ} 0 1 = cc in absurd (omega arith)
-verdict_sound false false true h = let z : ◌≡◌ {A = ℕ} 0 1 = cc in absurd (omega arith)
+verdict_sound true b c h = cc
+verdict_sound false true c h = cc
+verdict_sound false false true h = cc
 verdict_sound false false false h = (refl, refl, refl)
 
 none_of_three : (a b c : Bool) → not (a || (b || c)) ≡ true → (a ≡ false) × (b ≡ false) × (c ≡ false)
-none_of_three true b c h = let z : ◌≡◌ {A = ℕ} 0 1 = cc in absurd (omega arith)
-none_of_three false true c h = let z : ◌≡◌ {A = ℕ} 0 1 = cc in absurd (omega arith)
-none_of_three false false true h = let z : ◌≡◌ {A = ℕ} 0 1 = cc in absurd (omega arith)
+none_of_three true b c h = cc
+none_of_three false true c h = cc
+none_of_three false false true h = cc
 none_of_three false false false h = (refl, refl, refl)
 
 -- If the test `fits` holds, answer 5 does not apply, the layout lies in the memory, and its total is no more than the
@@ -416,61 +277,73 @@ fits_told l n h =
     let s = shaped l a.0 in
     record { shaped = s; placed = record { used = s.used; within = beyond_within n (pieces l) a.1 }; small = ltb-false n (total l) a.2 }
 
--- A repeat without bytes has an empty entry.
-span_none : (es : List Entry) → 0 < length es → span es ≡ 0 → some_count_zero es ≡ true
-unfolding span some_count_zero
-span_none [] h e = absurd (omega arith)
-span_none (x ∷ es) h e = rw (eq-eqb x.count 0 (omega arith))
+-- ---- the test of an untrusted layout
 
 at_most : (a b : ℕ) → not (ltb b a) ≡ leb a b
-at_most a b = go (leb a b) refl
+at_most a b = grind (arith, nat_tests)
+
+-- All entries fit exactly if none is empty and none ends beyond the memory.
+all_fit :
+    (n r : ℕ) (es : List Entry)
+    → list_all (entry_fits n r) es ≡ not (some_count_zero es || list_any (λ (e : Entry). ltb n (piece_end (piece_of r e))) es)
+unfolding some_count_zero
+all_fit n r [] = refl
+all_fit n r (e ∷ es) = go (eqb e.count 0) (ltb n (piece_end (piece_of r e))) (some_count_zero es) _ (all_fit n r es)
   where
-    go : (t : Bool) → leb a b ≡ t → not (ltb b a) ≡ t
-    go true e = rw (le-ltb b a (leb-true a b e))
-    go false e = rw (lt-ltb b a (leb-false a b e))
+    go : {x : Bool} (a b c d : Bool) → x ≡ not (c || d) → not (a || b) && x ≡ not ((a || c) || (b || d))
+    go true b c d h = refl
+    go false true true d h = refl
+    go false true false d h = refl
+    go false false true d h = h
+    go false false false d h = h
 
--- In these laws s is what the loop over the entries returns: the bytes of one repeat, or 0 if a count or a piece is
--- bad.
-module _ (l : Layout) (n s : ℕ) (e : s ≡ span_within l n) where
-  -- If the loop over the entries returns 0, the layout does not fit.
-  pub fits_not : 0 < length (in_use l) → s ≡ 0 → fits l n ≡ false
-  unfolding fits malformed
-  fits_not h z = go (counts_bad l.used l.repeat) (some_count_zero (in_use l)) (some_beyond n (pieces l)) (span_none (in_use l) h) (sym e ∙ z)
-    where
-      go : (m a b : Bool) → (span (in_use l) ≡ 0 → a ≡ true) → cond (a || b) 0 (span (in_use l)) ≡ 0 → not ((m || a) || (b || ltb n (total l))) ≡ false
-      go true a b f z = refl
-      go false true b f z = refl
-      go false false true f z = refl
-      go false false false f z =
-          let t = f z in
-          let y : ◌≡◌ {A = ℕ} 0 1 = cc in
-          absurd (omega arith)
+-- If the numbers of entries and repeats are in range, a layout fits if all entries do, in the last repeat, and its total
+-- is no more than the memory's length.
+pub fits_if :
+    (l : Layout) (n : ℕ) → counts_bad l.used l.repeat ≡ false
+    → fits l n ≡ list_all (entry_fits n (l.repeat - 1)) (in_use l) && leb (l.repeat * span (in_use l)) n
+unfolding fits malformed
+fits_if l n h =
+    rw (all_fit n (l.repeat - 1) (in_use l), beyond_pieces n l (numbered l.used l.repeat h).2, ← size-repeats (in_use l) 0 l.repeat)
+    (go (counts_bad l.used l.repeat) (some_count_zero (in_use l)) (some_beyond n (pieces l)) (total l) h)
+  where
+    go : (m z s : Bool) (t : ℕ) → m ≡ false → not ((m || z) || (s || ltb n t)) ≡ not (z || s) && leb t n
+    go true z s t e = cc
+    go false true s t e = refl
+    go false false true t e = refl
+    go false false false t e = at_most t n
 
-  -- If the loop over the entries returns more than 0, the layout fits exactly if its total is no more than the memory's
-  -- length.
-  pub fits-total : counts_bad l.used l.repeat ≡ false → (s ≡ 0 → ⊥) → fits l n ≡ leb (l.repeat * s) n
-  unfolding fits malformed
-  fits-total m h = rw e (go (counts_bad l.used l.repeat) (some_count_zero (in_use l)) (some_beyond n (pieces l)) m (rw e at h))
-    where
-      go :
-          (m a b : Bool) → m ≡ false → (cond (a || b) 0 (span (in_use l)) ≡ 0 → ⊥)
-          → not ((m || a) || (b || ltb n (total l))) ≡ leb (l.repeat * cond (a || b) 0 (span (in_use l))) n
-      go true a b m h = let z : ◌≡◌ {A = ℕ} 0 1 = cc in absurd (omega arith)
-      go false true b m h = absurd (h refl)
-      go false false true m h = absurd (h refl)
-      go false false false m h = rw (size-repeats (in_use l) 0 l.repeat) (at_most (l.repeat * span (in_use l)) n)
+-- If an entry does not fit, the layout does not.
+pub fits_not :
+    (l : Layout) (n i : ℕ) → counts_bad l.used l.repeat ≡ false → i < length (in_use l)
+    → entry_fits n (l.repeat - 1) (get_or (in_use l) i no_entry) ≡ false → fits l n ≡ false
+fits_not l n i h k e = fits_if l n h ∙ rw (list_all_at (entry_fits n (l.repeat - 1)) (in_use l) i no_entry k e)
+
+-- If all entries fit, the layout does if its total is no more than the memory's length.
+pub fits-total :
+    (l : Layout) (n : ℕ) → counts_bad l.used l.repeat ≡ false
+    → ((i : ℕ) → i < length (in_use l) → entry_fits n (l.repeat - 1) (get_or (in_use l) i no_entry) ≡ true)
+    → fits l n ≡ leb (l.repeat * span (in_use l)) n
+fits-total l n h e = fits_if l n h ∙ rw (and_from_places (list_all (entry_fits n (l.repeat - 1))) (entry_fits n (l.repeat - 1)) refl (λ _ _. refl) (in_use l) no_entry e)
+
+-- A layout of one entry fits if the entry does, and its total is no more than the memory's length.
+pub fits_one :
+    (l : Layout) (n : ℕ) (e : Entry) → counts_bad l.used l.repeat ≡ false → in_use l ≡ e ∷ []
+    → fits l n ≡ entry_fits n (l.repeat - 1) e && leb (l.repeat * e.count) n
+fits_one l n e h one =
+    fits_if l n h ∙ rw (one, zero-add e.count, and-true (entry_fits n (l.repeat - 1) e))
 
 -- None of answers 5, 6 and 7 applies to a sound layout.
-pub sound : (l : Layout) (n : ℕ) → verdict_on l n ≡ Sound → (malformed l ≡ false) × (some_beyond n (pieces l) ≡ false) × (some_share (pieces l) ≡ false)
+pub sound : (l : Layout) (n : ℕ) → verdict_on l n ≡ Ok tt → (malformed l ≡ false) × (some_beyond n (pieces l) ≡ false) × (some_share (pieces l) ≡ false)
 unfolding verdict_on
 sound l n h = verdict_sound (malformed l) (some_beyond n (pieces l)) (some_share (pieces l)) h
 
 -- A sound layout has 1 to 16 entries, none of them empty, and at most 1,024 pieces.
-pub sound_shaped : (l : Layout) (n : ℕ) → verdict_on l n ≡ Sound → Shaped l
+pub sound_shaped : (l : Layout) (n : ℕ) → verdict_on l n ≡ Ok tt → Shaped l
 sound_shaped l n h = shaped l (sound l n h).0
 
 -- A sound layout lies in the memory.
-pub sound_placed : (l : Layout) (n : ℕ) → verdict_on l n ≡ Sound → Placed l n
+pub sound_placed : (l : Layout) (n : ℕ) → verdict_on l n ≡ Ok tt → Placed l n
 sound_placed l n h = record { used = (sound_shaped l n h).used; within = beyond_within n (pieces l) (sound l n h).1 }
 
 module _ (p : Piece) (ps : List Piece) (i : ℕ) where
@@ -509,7 +382,7 @@ within_below n (p ∷ ps) w i h = go (ltb i p.count) refl (λ j g. within_below 
         omega (arith, place_far p ps i g, f (i - p.count) (place_left p ps i h g))
 
 -- Every memory offset of a sound layout is below the memory's length.
-pub sound_below : (l : Layout) (n : ℕ) → verdict_on l n ≡ Sound → Below n (places l)
+pub sound_below : (l : Layout) (n : ℕ) → verdict_on l n ≡ Ok tt → Below n (places l)
 sound_below l n h = within_below n (pieces l) (sound_placed l n h).within
 
 -- If pieces share no byte with p, none of their offsets lies in p.
@@ -575,5 +448,5 @@ apart_distinct (p ∷ ps) s i j h h' e =
         omega arith
 
 -- No two bytes of a sound layout have the same memory offset.
-pub sound_distinct : (l : Layout) (n : ℕ) → verdict_on l n ≡ Sound → Distinct (places l)
+pub sound_distinct : (l : Layout) (n : ℕ) → verdict_on l n ≡ Ok tt → Distinct (places l)
 sound_distinct l n h = apart_distinct (pieces l) (sound l n h).2

@@ -3,11 +3,11 @@ use mathlib.Core.Path.{◌≡◌, refl, ap, sym, subst, ◌∙◌}
 use mathlib.Core.List.{List, [], ◌∷◌, ◌++◌, map, append_assoc}
 use Prim.Native.Nat.{ℕ, zero, suc, ◌+◌, ◌*◌, ◌-◌, ◌<◌, ◌≤◌, min}
 use native.Mathlib.Decide.{dec_lt}
-use native.Mathlib.Nat.{sub-zero, zero-mul, suc-mul, zero-add, mul-le-mul_right}
+use native.Mathlib.Nat.{zero-mul, suc-mul, zero-add, mul-le-mul_right}
 use native.Mathlib.Omega.{arith}
 use borrow.Author.Rules.{part_to_end}
 use borrow.Rule.Slice.PartMut.{put_mid, Post-is}
-use lib.ListN.{length, take, drop, get_or, length-append, length-map, length-take, length-drop, drop_of_length-le}
+use lib.ListN.{length, take, drop, get_or, length-append, length-map, length-drop, drop_of_length-le}
 use lib.Seq.{length-take-le, drop-append-le, drop-append-add, drop-cons, drop-drop, take-append-le, get_or-take}
 use Rattle.layout.specs.declared.Entry.{Entry}
 use Rattle.layout.specs.declared.Layout.{Layout}
@@ -16,7 +16,7 @@ use Rattle.layout.specs.Pieces.{Piece, piece_end, piece_of, in_use, repeats, pie
 use Rattle.layout.specs.Moves.{gathered, scattered, Placed}
 use Rattle.layout.specs.Inner.Cursors.{next_piece, ahead, forward, InLayout, Walked, Readied, Stored, Storing}
 use Rattle.layout.specs.Inner.Steps.{no_entry, no_piece}
-use Rattle.layout.proofs.PieceLaws.{size_repeat, in_use_from, length_from, drop_from, take_from, length_places_of, length-places}
+use Rattle.layout.proofs.PieceLaws.{size_repeat, length_from, drop_from, take_from, length_places_of, length-places}
 use Rattle.layout.proofs.MoveLaws.{gathered_from, scattered_none, scattered-append, scattered_run, length-scattered}
 use Rattle.layout.proofs.AnswerLaws.{length-repeats, piece_at, within_at}
 
@@ -127,16 +127,6 @@ module _ (l : Layout) (used : length (in_use l) ≡ l.used) where
         → drop y (places_of (drop (r * l.used + i) (pieces l))) ≡ drop (y - (get_or l.entries i no_entry).count) (places_of (drop (r * l.used + (i + 1)) (pieces l)))
     pass y h = rw here (drop_past y _ _ _ h)
 
--- The bytes of a repeat from entry i on are those of entry i and those of the entries after it.
-pub span_left : (u : ℕ) (es : List Entry) (i : ℕ) → i < u → u ≤ length es → span (drop i (take u es)) ≡ (get_or es i no_entry).count + span (drop (i + 1) (take u es))
-unfolding span
-span_left u es i h k = ap (λ (z : List Entry). span z) (in_use_from u es i h k)
-
--- After the last used entry no bytes of a repeat are left.
-pub span_passed : (u : ℕ) (es : List Entry) (i : ℕ) → u ≤ i → span (drop i (take u es)) ≡ 0
-unfolding span
-span_passed u es i h = rw (drop_of_length-le (take u es) {i = i} (omega (arith, length-take u es)))
-
 -- ---- the next piece
 
 module _ (l : Layout) (c : Cursor) (s : InLayout l c) where
@@ -182,7 +172,7 @@ module _ (l : Layout) (c : Cursor) (before bytes : List ℕ) where
     pub storing_turn :
         (ys : List ℕ)
         → e.place.0 + e.left ≤ length mid
-        → ys ≡ take (n - 0) rest
+        → ys ≡ take n rest
         → length (after ys) ≡ length before
         → Storing l c before bytes (forward e n) (after ys) (take (length rest - n) (drop n rest))
     storing_turn ys w f size =
@@ -192,7 +182,7 @@ module _ (l : Layout) (c : Cursor) (before bytes : List ℕ) where
         let k : length (take (length rest - n) (drop n rest)) ≡ length rest - n = rw part_to_end (length-drop n rest) in
         let s : n + (length rest - n) ≡ length rest = omega arith in
         let m : scattered (after ys) (ahead l (forward e n)) (take (length rest - n) (drop n rest)) ≡ scattered mid (ahead l e) rest =
-        rw (Post-is a (a + n) mid (omega arith), part_to_end rest n, q, f, sub-zero)
+        rw (Post-is a (a + n) mid (omega arith), part_to_end rest n, q, f)
         (sym (scattered_run mid (ahead l e) rest a n (take_row n a e.left _ h) (omega arith) (omega (arith, w)))) in
         record {
           stands = forward_stands l e r.stands n h;

@@ -2,23 +2,11 @@
 use mathlib.Core.Path.{◌≡◌, refl, ap, sym, ◌∙◌}
 use mathlib.Core.List.{List, [], ◌∷◌, ◌++◌, append_assoc}
 use Prim.Native.Nat.{ℕ, zero, suc, ◌+◌, ◌<◌, ◌≤◌}
-use native.Mathlib.Numerals.{add-one}
 use native.Mathlib.Omega.{arith}
 use lib.ListN.{length, take-append-drop, take, drop, get_or, set, length-drop, length-set, length-map}
-use lib.Seq.{take-suc, take-suc-set, length-take-le, drop-cons, take_all, get_or-set_same, get_or-set_other, get_or-take, get_or-drop, ext_get_or, sets, sets-eq}
+use lib.Seq.{length-take-le, drop-cons, get_or-set_same, get_or-set_other, get_or-take, get_or-drop, ext_get_or, sets, sets-eq}
 use Rattle.layout.specs.Pieces.{numbers_from}
 use Rattle.layout.specs.Moves.{gathered, scattered, Distinct, Below}
-
--- ---- the copying loop
-
--- If the first i bytes are copied, storing byte i makes it the first i + 1.
-pub copy_more : (d s : List ℕ) (i : ℕ) → i < length d → i < length s → take i d ≡ take i s → take (i + 1) (set d i (get_or s i 0)) ≡ take (i + 1) s
-copy_more d s i h h' e =
-    rw (add-one, take-suc-set d i (get_or s i 0) h, take-suc s i 0 h') (ap (λ (l : List ℕ). l ++ (get_or s i 0 ∷ [])) e)
-
--- If as many bytes are copied as both lists have, the lists are the same.
-pub copy_all : (d s : List ℕ) (i : ℕ) → length d ≤ i → length s ≤ i → take i d ≡ take i s → d ≡ s
-copy_all d s i h h' e = sym (take_all i d h) ∙ e ∙ take_all i s h'
 
 -- ---- gathered
 

@@ -2,11 +2,10 @@
 use mathlib.Core.Path.{◌≡◌, refl, ap, sym, ◌∙◌}
 use mathlib.Core.List.{List, [], ◌∷◌, ◌++◌, map, append-nil}
 use Prim.Native.Nat.{ℕ, zero, suc, ◌+◌, ◌*◌, ◌-◌, ◌<◌, ◌≤◌}
-use native.Mathlib.Nat.{add-zero, sub-zero, mul_assoc, mul_comm, mul-zero, zero-mul, suc-mul, mul-le-mul_left}
-use native.Mathlib.Numerals.{add-one}
+use native.Mathlib.Nat.{add-zero, sub-zero, mul-zero, zero-add, zero-mul, suc-mul}
 use native.Mathlib.Omega.{arith}
 use lib.ListN.{length, take, drop, get_or, length-append}
-use lib.Seq.{length-take-le, drop-cons, get_or-take}
+use Rattle.std.proofs.lemmas.List.Sums.{sum_by-append, sum_by-cons}
 use Rattle.layout.specs.declared.Entry.{Entry}
 use Rattle.layout.specs.declared.Layout.{Layout}
 use Rattle.layout.specs.Pieces.{Piece, piece_of, in_use, repeats, pieces, size, span, total, numbers_from, places_of, places}
@@ -17,14 +16,14 @@ use Rattle.layout.specs.Inner.Steps.{no_entry}
 
 pub size-append : (ps qs : List Piece) → size (ps ++ qs) ≡ size ps + size qs
 unfolding size
-size-append [] qs = omega arith
-size-append (p ∷ ps) qs = omega (arith, size-append ps qs)
+size-append ps qs = sum_by-append (λ (p : Piece). p.count) ps qs
 
 -- The pieces of one repeat have as many bytes as the counts of the entries add up to.
 pub size_repeat : (r : ℕ) (es : List Entry) → size (map (piece_of r) es) ≡ span es
-unfolding size span
+unfolding size
 size_repeat r [] = refl
-size_repeat r (e ∷ es) = ap (λ (n : ℕ). e.count + n) (size_repeat r es)
+size_repeat r (e ∷ es) =
+    omega (arith, sum_by-cons (λ (p : Piece). p.count) (piece_of r e) (map (piece_of r) es), sum_by-cons (λ (e : Entry). e.count) e es, size_repeat r es)
 
 -- Every repeat has the same number of bytes, so n repeats have n times as many.
 pub size-repeats : (es : List Entry) (r n : ℕ) → size (repeats es r n) ≡ n * span es
@@ -33,22 +32,6 @@ size-repeats es r zero = sym (zero-mul (span es))
 size-repeats es r (suc n) =
     omega (arith, size-append (map (piece_of r) es) (repeats es (suc r) n), size_repeat r es, size-repeats es (suc r) n, suc-mul n (span es))
 
--- The first i + 1 entries have the bytes of the first i and those of entry i.
-pub span_more : (es : List Entry) (i : ℕ) → span (take (i + 1) es) ≡ span (take i es) + (get_or es i no_entry).count
-unfolding span
-span_more es i = rw add-one (go es i)
-  where
-    go : (es : List Entry) (i : ℕ) → span (take (suc i) es) ≡ span (take i es) + (get_or es i no_entry).count
-    go [] zero = refl
-    go [] (suc i) = refl
-    go (e ∷ es) zero = omega arith
-    go (e ∷ es) (suc i) = omega (arith, go es i)
-
--- The used entries from i on are entry i and the used entries from i + 1 on.
-pub in_use_from : (u : ℕ) (es : List Entry) (i : ℕ) → i < u → u ≤ length es → drop i (take u es) ≡ get_or es i no_entry ∷ drop (i + 1) (take u es)
-in_use_from u es i h k =
-    rw add-one (drop-cons (take u es) i no_entry (omega (arith, length-take-le u es k)) ∙ ap (λ (e : Entry). e ∷ drop (suc i) (take u es)) (get_or-take u es i no_entry h))
-
 -- If the used count is 1, only the first entry is in use.
 pub one_in_use : (l : Layout) → length l.entries ≡ 16 → l.used ≡ 1 → in_use l ≡ get_or l.entries 0 no_entry ∷ []
 one_in_use l n one = rw one (go l.entries (omega arith))
@@ -56,12 +39,6 @@ one_in_use l n one = rw one (go l.entries (omega arith))
     go : (es : List Entry) → 0 < length es → take 1 es ≡ get_or es 0 no_entry ∷ []
     go [] h = absurd (omega arith)
     go (e ∷ es) h = refl
-
--- The product that `total` computes fits in 64 bits.
-pub span_fits : (u r s : ℕ) → u * r ≤ 1024 → s ≤ u * 4294967295 → r * s < 18446744073709551616
-span_fits u r s h b =
-    let e : r * (u * 4294967295) ≡ (u * r) * 4294967295 = sym (mul_assoc r u 4294967295) ∙ ap (λ (k : ℕ). k * 4294967295) (mul_comm r u) in
-    omega (arith, mul-le-mul_left r b, e)
 
 -- ---- pieces within memory
 
@@ -108,7 +85,7 @@ pub length_places_of : (ps : List Piece) → length (places_of ps) ≡ size ps
 unfolding places_of size
 length_places_of [] = refl
 length_places_of (p ∷ ps) =
-    omega (arith, length-append (numbers_from p.start p.count) (places_of ps), length_from p.start p.count, length_places_of ps)
+    omega (arith, length-append (numbers_from p.start p.count) (places_of ps), length_from p.start p.count, length_places_of ps, sum_by-cons (λ (p : Piece). p.count) p ps)
 
 -- A layout has one memory offset for each of its bytes.
 pub length-places : (l : Layout) → length (places l) ≡ total l
@@ -134,7 +111,7 @@ module _ (l : Layout) (e : Entry) (es : List Entry) (first : l.entries ≡ e ∷
   -- A layout of one piece has as many bytes as the piece.
   pub one_total : total l ≡ e.count
   unfolding size
-  one_total = ap (λ (ps : List Piece). size ps) one_piece ∙ add-zero e.count
+  one_total = ap (λ (ps : List Piece). size ps) one_piece ∙ zero-add e.count
 
   -- The bytes of a layout of one piece lie at consecutive memory offsets.
   pub one_places : places l ≡ numbers_from e.start.0 e.count

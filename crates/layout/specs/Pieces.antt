@@ -13,7 +13,7 @@
 --   numbers_from m n          n numbers from m on
 --   places_of pieces          the memory offsets of the pieces' bytes
 --   places l                 the memory offset of each layout byte
-use Rattle.std.specs.Prelude.{List, [], ◌∷◌, ◌++◌, map, ℕ, zero, suc, ◌+◌, ◌*◌, take}
+use Rattle.std.specs.Prelude.{List, [], ◌∷◌, ◌++◌, map, ℕ, zero, suc, ◌+◌, ◌*◌, take, sum_by}
 use Rattle.layout.specs.declared.Entry.{Entry}
 use Rattle.layout.specs.declared.Layout.{Layout}
 
@@ -56,13 +56,11 @@ pieces l = repeats (in_use l) 0 l.repeat
 
 -- How many bytes the pieces have together.
 unfoldable pub size : (ps : List Piece) → ℕ
-size [] = 0
-size (p ∷ ps) = p.count + size ps
+size ps = sum_by (λ (p : Piece). p.count) ps
 
 -- How many bytes one repeat of the entries has.
-unfoldable pub span : (entries : List Entry) → ℕ
-span [] = 0
-span (e ∷ es) = e.count + span es
+abbrev pub span : (entries : List Entry) → ℕ
+span es = sum_by (λ (e : Entry). e.count) es
 
 -- The layout's total.
 abbrev pub total : (l : Layout) → ℕ

@@ -10,8 +10,8 @@ use crate::{Entry, Layout, LayoutOffset, MemoryOffset, sizes};
 
 // A position in the layout: the next byte is the memory byte at `place`, and `left` bytes of its piece follow each
 // other from there. The next piece is that of `entry` in `repeat` or, if `entry` is the used count, the first of the
-// next repeat.
-#[derive(Clone, Copy)]
+// next repeat. Callers pass the layout beside it, so that it stays four words, and `InLayout` says that the two agree.
+#[derive(Clone, Copy, Debug, PartialEq, Eq)]
 pub struct Cursor {
     pub place: MemoryOffset,
     pub left: u64,
@@ -21,13 +21,11 @@ pub struct Cursor {
 
 // Returns the cursor at byte y of entry i in repeat r.
 fn cursor_within(e: Entry, i: usize, r: u64, y: u64) -> Cursor
-    requires { (piece_end (piece_of r e) < 2 ^ 64) × (y < e.count) × (i < entries_max) }
+    requires { (piece_end (piece_of r e) < 2 ^ 64) × (y ≤ e.count) × (i < entries_max) }
     ensures { result ≡ record { place = record { 0 = (piece_of r e).start + y }; left = e.count - y; entry = i + 1; repeat = r } }
 {
-    let start = repeat_start(e, r);
-    let place = start.ahead(y);
     Cursor {
-        place,
+        place: repeat_start(e, r).ahead(y),
         left: e.count as u64 - y,
         entry: i + 1,
         repeat: r,
@@ -46,30 +44,19 @@ fn find_in_repeat(l: Layout, r: u64, x: u64) -> Cursor
             return cursor_within(e, 0, r, x);
         }
     }
-    find_in_repeat_each(l, r, x)
-}
-
-// Does what `find_in_repeat` says, entry by entry.
-fn find_in_repeat_each(l: Layout, r: u64, x: u64) -> Cursor
-    requires { (Placed l (2 ^ 64 - 1)) × (r < l.repeat) × (x ≤ span (in_use l)) }
-    ensures { Walked l (r * span (in_use l) + x) result }
-{
-    let used = l.used as usize;
+    let list = l;
     let mut y = x;
-    let mut i: usize = 0;
-    while i < used {
-        let e = l.entries[i];
+    for (i, e) in list.in_use().iter().enumerate() {
         let count = e.count as u64;
         if y < count {
-            return cursor_within(e, i, r, y);
+            return cursor_within(*e, i, r, y);
         }
         y -= count;
-        i += 1;
     }
     Cursor {
         place: MemoryOffset(0),
         left: 0,
-        entry: used,
+        entry: l.used as usize,
         repeat: r,
     }
 }
@@ -112,14 +99,7 @@ fn piece_cursor(l: Layout, i: usize, r: u64) -> Cursor
     requires { (Placed l (2 ^ 64 - 1)) × (r < l.repeat) × (i < l.used) }
     ensures { Begins l (r * l.used + i) result }
 {
-    let e = l.entries[i];
-    let place = repeat_start(e, r);
-    Cursor {
-        place,
-        left: e.count as u64,
-        entry: i + 1,
-        repeat: r,
-    }
+    cursor_within(l.entries[i], i, r, 0)
 }
 
 // Returns the cursor at the start of the next piece.
@@ -134,7 +114,8 @@ fn next_piece(l: Layout, c: Cursor) -> Cursor
     piece_cursor(l, 0, c.repeat + 1)
 }
 
-// Returns the cursor itself if bytes of its piece are left, else the start of the next piece that has bytes.
+// Returns the cursor itself if bytes of its piece are left, else the start of the next piece that has bytes. The layout
+// goes by value from call to call: by reference it would be copied even where no next piece is needed.
 pub fn next_piece_if_spent(l: Layout, c: Cursor) -> Cursor
     requires { (Placed l (2 ^ 64 - 1)) × (InLayout l c) × (0 < length (ahead l c)) }
     ensures { Readied l c result }
@@ -151,21 +132,18 @@ pub fn forward(c: Cursor, n: u64) -> Cursor
     requires { (n ≤ c.left) × (c.place.0 + c.left < 2 ^ 64) }
     ensures { result ≡ cursors.forward c n }
 {
-    let place = c.place;
     Cursor {
-        place: place.ahead(n),
+        place: c.place.ahead(n),
         left: c.left - n,
-        entry: c.entry,
-        repeat: c.repeat,
+        ..c
     }
 }
 
 // Returns the bytes that are left of the piece.
-pub fn rest_of_piece<'a>(memory: &'a [u8], c: Cursor) -> &'a [u8]
+pub fn rest_of_piece(memory: &[u8], c: Cursor) -> &[u8]
     requires { c.place.0 + c.left ≤ length memory.now }
     ensures { result.now ≡ take c.left (drop c.place.0 memory.now) }
 {
     let a = c.place.0 as usize;
-    let e = a + c.left as usize;
-    &memory[a..e]
+    &memory[a..a + c.left as usize]
 }

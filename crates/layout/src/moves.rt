@@ -6,20 +6,8 @@ ghost use Rattle.layout.specs.Inner.Cursors.{InLayout, Stored, ahead};
 use crate::Layout;
 use crate::cursor::{Cursor, forward, next_piece_if_spent};
 
-// Copies all bytes. A plain loop: proved code has no bounds checks, and it runs as fast as memcpy.
-fn copy(src: &[u8], dst: &mut [u8])
-    requires { length src.now ≡ length dst.old }
-    ensures { dst.new ≡ src.now }
-{
-    let mut i = 0;
-    while i < dst.len() {
-        dst[i] = src[i];
-        i += 1;
-    }
-}
-
 // Stores the bytes at the memory offsets ahead of a cursor, in order, and returns the cursor after them. Where pieces
-// overlap, the later byte remains.
+// overlap, the later byte remains. The lengths of the parts are those of the pieces, so no `chunks` fits.
 pub fn scatter(l: Layout, memory: &mut [u8], at: Cursor, bytes: &[u8]) -> Cursor
     requires placed { Placed l (length memory.old) }
     requires in_layout { (InLayout l at) × (length bytes.now ≤ length (ahead l at)) }
@@ -27,12 +15,11 @@ pub fn scatter(l: Layout, memory: &mut [u8], at: Cursor, bytes: &[u8]) -> Cursor
 {
     let mut c = at;
     let mut rest = bytes;
-    while 0 < rest.len() {
+    while !rest.is_empty() {
         c = next_piece_if_spent(l, c);
-        let n = arith::min(c.left, rest.len() as u64) as usize;
+        let n = c.left.min(rest.len() as u64) as usize;
         let a = c.place.0 as usize;
-        let e = a + n;
-        copy(&rest[0..n], &mut memory[a..e]);
+        memory[a..a + n].copy_from_slice(&rest[..n]);
         c = forward(c, n as u64);
         rest = &rest[n..];
     }

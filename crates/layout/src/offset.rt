@@ -1,14 +1,16 @@
 // Offsets in the layout and offsets in memory are different kinds of number (01). Their fields are private, so that no
-// other crate takes one for the other, and only the walk turns a layout offset into a memory offset.
+// other crate takes one for the other, and only the walk turns a layout offset into a memory offset. They stay two tuple
+// structs, as 01 wants them. A trait for their three methods of one line would be no plainer: it would want a ghost
+// number, its laws, two impls, and a `use` in each caller.
 ghost use Rattle.std.specs.Prelude.{◌≡◌, ◌+◌, ◌<◌, ◌^◌};
 
 // The number of a layout byte, counted from the layout's first byte.
-#[derive(Clone, Copy)]
+#[derive(Clone, Copy, Debug, PartialEq, Eq)]
 pub struct LayoutOffset(pub(crate) u64);
 
 // The number of a byte of the lent memory. C sees it inside an entry.
 #[repr(C)]
-#[derive(Clone, Copy)]
+#[derive(Clone, Copy, Debug, PartialEq, Eq)]
 pub struct MemoryOffset(pub(crate) u64);
 
 impl LayoutOffset {

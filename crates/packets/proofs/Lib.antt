@@ -1,3 +1,4 @@
 pub mod PacketLaws
 pub mod RuleLaws
 pub mod Following
+pub mod Calls

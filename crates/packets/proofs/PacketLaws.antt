@@ -1,5 +1,6 @@
 -- These laws are about a session in progress: where its engine is, the room for a packet, the test of an untrusted
 -- session, what packet and finish answer, and that "came from these calls" is kept.
+use Rattle.std.specs.Prelude.{None, Ok, Err}
 use mathlib.Core.Path.{◌≡◌, refl, sym, ◌∙◌}
 use mathlib.Core.Bool.{Bool, true, false, ◌&&◌, not}
 use mathlib.Core.List.{List, [], ◌∷◌, ◌++◌}
@@ -8,7 +9,7 @@ use native.Mathlib.Nat.{zero-mul, mul-le-mul, mul-le-mul_left}
 use native.Mathlib.Omega.{arith}
 use lib.Dec.{eqb, ltb, leb}
 use lib.ListN.{length, length-append}
-use borrow.Author.Tests.{eq-eqb, ne_eqb, lt-ltb, le-ltb, le-leb, lt-leb, eqb-true, ltb-true, ltb-false, leb-true}
+use borrow.Author.Tests.{eq-eqb, lt-ltb, le-ltb, le-leb, lt-leb, eqb-true, ltb-true, ltb-false, leb-true}
 use Rattle.guard.specs.Guards.{Bytes}
 use Rattle.layout.specs.declared.offset.LayoutOffset.{LayoutOffset}
 use Rattle.layout.specs.declared.cursor.Cursor.{Cursor}
@@ -16,12 +17,8 @@ use Rattle.layout.specs.Pieces.{total}
 use Rattle.layout.specs.Moves.{Placed}
 use Rattle.layout.specs.Inner.Cursors.{Walked}
 use Rattle.key.specs.declared.Key.{Key}
-use Rattle.key.specs.declared.Outcome.{Outcome}
-use Rattle.key.specs.declared.Outcome.TheVariants.{Done, Refused}
-use Rattle.key.specs.declared.Refusal.{Refusal}
-use Rattle.key.specs.declared.Refusal.TheVariants.{MemoryLength, LongPacket, BytesToCome}
-use Rattle.key.specs.Numbers.{refuse}
-use Rattle.slot.specs.declared.Slot.TheVariants.{Empty}
+use Rattle.key.specs.Numbers.{Outcome, refuse}
+use Rattle.key.specs.declared.refusal.Refusal.TheVariants.{MemoryLength, LongPacket}
 use Rattle.key.specs.Streams.{stream_length}
 use Rattle.key.specs.Inner.Admission.{Measured}
 use Rattle.key.specs.Admitting.{open_answer}
@@ -32,18 +29,16 @@ use Rattle.engine.specs.declared.Rule.{Rule}
 use Rattle.engine.specs.declared.Progress.{Progress}
 use Rattle.engine.specs.Streams.{in_block, in_unit}
 use Rattle.engine.specs.Feeding.{begun, fed, emitted}
-use Rattle.engine.specs.declared.FeedResult.{FeedResult}
 use Rattle.engine.specs.Positions.{in_step, taken, written}
-use Rattle.engine.specs.Inner.Parts.{count_limit, InStep, Feedable, Feeds}
+use Rattle.engine.specs.Inner.Parts.{count_limit, InStep, Feedable}
 use Rattle.engine.proofs.Arriving.{field_small}
 use Rattle.engine.proofs.Feeding.{fed-append}
 use Rattle.engine.proofs.FeedLaws.{room_at, begun_in_step, fed-after, fed-taken, written_within}
 use Rattle.transfer.proofs.Laws.{Ready, ready, walkable}
 use Rattle.transfer.proofs.SendLaws.{stream_double}
 use Rattle.packets.specs.declared.Session.{Session}
-use Rattle.packets.specs.declared.PacketResult.{PacketResult}
-use Rattle.packets.specs.declared.FinishResult.{FinishResult}
-use Rattle.packets.specs.Sessions.{rule_of, taken_by, wire_length, SessionFromCalls, SessionValid, session_valid, ended_key, packet_answer, with_progress, packet_result, memory_after_packet, finish_answer, finish_result, open_result}
+use Rattle.packets.specs.Sessions.{FinishResult}
+use Rattle.packets.specs.Sessions.{rule_of, taken_by, wire_length, SessionFromCalls, SessionValid, session_valid, ended_key, packet_answer, packet_result, finish_answer, finish_result, open_result}
 
 pub bytes_append : (xs ys : List ℕ) → Bytes xs → Bytes ys → Bytes (xs ++ ys)
 bytes_append [] ys a b i = b i
@@ -51,7 +46,7 @@ bytes_append (x ∷ xs) ys a b zero = a 0
 bytes_append (x ∷ xs) ys a b (suc i) = bytes_append xs ys (λ j. a (suc j)) b i
 
 -- The laws of this module follow from an accepted open of a valid key.
-module _ (s : Session) (u : KeyValid s.key) (o : open_answer s.key s.key.memory_length s.offset.0 s.data_length ≡ Done) where
+module _ (s : Session) (u : KeyValid s.key) (o : open_answer s.key s.key.memory_length s.offset.0 s.data_length ≡ Ok tt) where
   open_told : Admitted s.key s.key.memory_length s.offset.0 s.data_length
   open_told = admitted s.key s.key.memory_length s.offset.0 s.data_length u o
 
@@ -59,8 +54,8 @@ module _ (s : Session) (u : KeyValid s.key) (o : open_answer s.key s.key.memory_
   engine_ready = ready (rule_of s) s.data_length (record { first = open_told.wire; second = open_told.memory; alike = λ a b. sym (open_told.alike b a) })
 
   -- Before the first byte both sides are in step.
-  pub session_begun : InStep (rule_of s) (begun (rule_of s) Empty)
-  session_begun = begun_in_step (rule_of s) Empty engine_ready.matched
+  pub session_begun : InStep (rule_of s) (begun (rule_of s) None)
+  session_begun = begun_in_step (rule_of s) None engine_ready.matched
 
   -- An input unit has at least one byte.
   pub some_unit : 0 < in_unit (rule_of s)
@@ -82,14 +77,14 @@ module _ (s : Session) (u : KeyValid s.key) (o : open_answer s.key s.key.memory_
       )
 
   -- The number of bytes taken is the length of the bytes fed since open.
-  pub taken-all : (xs : List ℕ) → taken (rule_of s) (fed (rule_of s) (begun (rule_of s) Empty) xs) ≡ length xs
-  taken-all xs = fed-taken (rule_of s) (begun (rule_of s) Empty) session_begun some_unit xs ∙ omega (arith, zero-mul (in_unit (rule_of s)))
+  pub taken-all : (xs : List ℕ) → taken (rule_of s) (fed (rule_of s) (begun (rule_of s) None) xs) ≡ length xs
+  taken-all xs = fed-taken (rule_of s) (begun (rule_of s) None) session_begun some_unit xs ∙ omega (arith, zero-mul (in_unit (rule_of s)))
 
 -- Every session from these calls is valid.
 pub came_session_valid : (s : Session) → SessionFromCalls s → SessionValid s
 came_session_valid s f =
     let u = came_valid s.key f.key in
-    let a = fed-after (rule_of s) (begun (rule_of s) Empty) (session_begun s u f.opened) (some_unit s u f.opened) f.came in
+    let a = fed-after (rule_of s) (begun (rule_of s) None) (session_begun s u f.opened) (some_unit s u f.opened) f.came in
     record {
       key = u;
       opened = f.opened;
@@ -179,49 +174,37 @@ module _ (s : Session) (u : KeyValid s.key) where
     where
       go : (o : Outcome) (b c : Bool) → open_answer s.key s.key.memory_length s.offset.0 s.data_length ≡ o → in_step (rule_of s) s.progress ≡ b → leb (taken_by s) (wire_length s) ≡ c
           → accepts o && (b && c) ≡ true → SessionValid s
-      go Done true true x y z t =
+      go (Ok tt) true true x y z t =
           let i = in_step_told (rule_of s) s.progress y in
           record { key = u; opened = x; aligned = record { index = i.0; at = i.1; within = omega (arith, i.2); eight = e }; begun = i.2; fits = leb-true (taken_by s) (wire_length s) z }
-      go Done true false x y z t = let n : ◌≡◌ {A = ℕ} 0 1 = cc in absurd (omega arith)
-      go Done false c x y z t = let n : ◌≡◌ {A = ℕ} 0 1 = cc in absurd (omega arith)
-      go (Refused r) b c x y z t = let n : ◌≡◌ {A = ℕ} 0 1 = cc in absurd (omega arith)
+      go (Ok tt) true false x y z t = let n : ◌≡◌ {A = ℕ} 0 1 = cc in absurd (omega arith)
+      go (Ok tt) false c x y z t = let n : ◌≡◌ {A = ℕ} 0 1 = cc in absurd (omega arith)
+      go (Err r) b c x y z t = let n : ◌≡◌ {A = ℕ} 0 1 = cc in absurd (omega arith)
 
-  -- The laws of this module state the result of `session_valid` at each of its returns.
-  module _ (o : Outcome) (e : o ≡ open_answer s.key s.key.memory_length s.offset.0 s.data_length) where
-    -- The test is false if open's answer is a refusal.
-    pub not_opened : (r : Refusal) → o ≡ Refused r → false ≡ session_valid s
+  module _ (o : open_answer s.key s.key.memory_length s.offset.0 s.data_length ≡ Ok tt) (h : in_step (rule_of s) s.progress ≡ true) (w : ℕ) (l : w ≡ wire_length s) where
+    some : 1 ≤ in_unit (rule_of s)
+    some = some_unit s u o
+
+    -- The test is false if more units have come than the wire has bytes.
+    pub too_far : w < s.progress.input.index → false ≡ session_valid s
     unfolding session_valid
-    not_opened r d = rw (← e, d) refl
+    too_far n = rw (o, h, lt-leb (taken_by s) (wire_length s) (omega (arith, l, mul-le-mul_left s.progress.input.index some))) refl
 
-    module _ (d : o ≡ Done) where
-      -- The test is false if the sides are not in step.
-      pub out_of_step : in_step (rule_of s) s.progress ≡ false → false ≡ session_valid s
-      unfolding session_valid
-      out_of_step h = rw (← e, d, h) refl
+    -- If no more units have come than the wire has bytes, the bytes taken are within the count limit.
+    pub countable : s.progress.input.index ≤ w → taken (rule_of s) s.progress ≤ count_limit
+    countable n =
+        let i = in_step_told (rule_of s) s.progress h in
+        let R = (engine_ready s u o).matched in
+        let m : in_unit (rule_of s) ≤ 4168 = omega (arith, R.most, field_small (rule_of s).input) in
+        let q : s.progress.input.index ≤ 2 ^ 27 = omega (arith, n, l, wire_short s u o) in
+        omega (arith, i.2, m, mul-le-mul {n₁ = s.progress.input.index} {m₁ = in_unit (rule_of s)} {n₂ = 2 ^ 27} {m₂ = 4168} q m)
 
-      module _ (h : in_step (rule_of s) s.progress ≡ true) (w : ℕ) (l : w ≡ wire_length s) where
-        some : 1 ≤ in_unit (rule_of s)
-        some = some_unit s u (sym e ∙ d)
+-- What the calls below require of a valid session.
+pub valid_configured : (s : Session) → SessionValid s → s.key.configured ≡ true
+valid_configured s v = (open_told s v.key v.opened).configured
 
-        -- The test is false if more units have come than the wire has bytes.
-        pub too_far : w < s.progress.input.index → false ≡ session_valid s
-        unfolding session_valid
-        too_far n = rw (← e, d, h, lt-leb (taken_by s) (wire_length s) (omega (arith, l, mul-le-mul_left s.progress.input.index some))) refl
-
-        -- If no more units have come than the wire has bytes, the bytes taken are within the count limit.
-        pub countable : s.progress.input.index ≤ w → taken (rule_of s) s.progress ≤ count_limit
-        countable n =
-            let i = in_step_told (rule_of s) s.progress h in
-            let R = (engine_ready s u (sym e ∙ d)).matched in
-            let m : in_unit (rule_of s) ≤ 4168 = omega (arith, R.most, field_small (rule_of s).input) in
-            let q : s.progress.input.index ≤ 2 ^ 27 = omega (arith, n, l, wire_short s u (sym e ∙ d)) in
-            omega (arith, i.2, m, mul-le-mul {n₁ = s.progress.input.index} {m₁ = in_unit (rule_of s)} {n₂ = 2 ^ 27} {m₂ = 4168} q m)
-
-        -- If open is accepted and the sides are in step, the test is whether the bytes taken are at most those of the
-        -- wire.
-        pub counted : (t : ℕ) → t ≡ taken_by s → leb t w ≡ session_valid s
-        unfolding session_valid
-        counted t z = rw (← e, d, h, l, z) refl
+pub valid_countable : (s : Session) → SessionValid s → taken (rule_of s) s.progress ≤ count_limit
+valid_countable s v = omega (arith, v.fits, wire_short s v.key v.opened)
 
 -- The test `session_valid` is true for every valid session.
 pub valid_passes : (s : Session) → SessionValid s → session_valid s ≡ true
@@ -232,68 +215,33 @@ valid_passes s f =
 -- ---- the answers of packet and finish
 
 module _ (s : Session) (m n : ℕ) where
-  -- Packet refuses a wrong memory length with 8.
-  pub answer_8 : (m ≡ s.key.memory_length → ⊥) → Refused MemoryLength ≡ packet_answer s m n
-  unfolding packet_answer
-  answer_8 h = rw (ne_eqb m s.key.memory_length h)
-
   module _ (same : m ≡ s.key.memory_length) (t w : ℕ) (et : t ≡ taken_by s) (ew : w ≡ wire_length s) (h : t ≤ w) where
-    -- Packet refuses more bytes than are still to come with 12.
-    pub answer_12 : w - t < n → Refused LongPacket ≡ packet_answer s m n
-    unfolding packet_answer
-    answer_12 k = rw (eq-eqb m s.key.memory_length same, lt-ltb (wire_length s) (taken_by s + n) (omega (arith, et, ew)))
-
     -- Packet accepts at most the bytes still to come, if it is lent a memory of the right length.
-    pub answer_0 : n ≤ w - t → Done ≡ packet_answer s m n
+    pub answer_0 : n ≤ w - t → Ok tt ≡ packet_answer s m n
     unfolding packet_answer
     answer_0 k = rw (eq-eqb m s.key.memory_length same, le-ltb (wire_length s) (taken_by s + n) (omega (arith, et, ew)))
 
 module _ (s : Session) (t w : ℕ) (et : t ≡ taken_by s) (ew : w ≡ wire_length s) where
-  -- Finish refuses with 13 while bytes are still to come, and returns the session.
-  pub finish_early : t < w → ◌≡◌ {A = FinishResult} (record { outcome = Refused BytesToCome; key = s.key; session = s }) (finish_result s)
-  unfolding finish_answer
-  finish_early h = rw (lt-ltb (taken_by s) (wire_length s) (omega (arith, et, ew)))
-
   -- Finish accepts once all bytes have come, and returns the key with the recorded error.
-  pub finish_done : w ≤ t → (k : Key) → k ≡ ended_key s → ◌≡◌ {A = FinishResult} (record { outcome = Done; key = k; session = s }) (finish_result s)
+  pub finish_done : w ≤ t → (k : Key) → k ≡ ended_key s → ◌≡◌ {A = FinishResult} (record { outcome = Ok tt; key = k; session = s }) (finish_result s)
   unfolding finish_answer
   finish_done h k e = rw (le-ltb (taken_by s) (wire_length s) (omega (arith, et, ew)), e)
 
 -- An accepted packet was lent a memory of the right length, and is no longer than the bytes still to come.
-pub packet_told : (s : Session) (m n : ℕ) → packet_answer s m n ≡ Done → (m ≡ s.key.memory_length) × (taken_by s + n ≤ wire_length s)
+pub packet_told : (s : Session) (m n : ℕ) → packet_answer s m n ≡ Ok tt → (m ≡ s.key.memory_length) × (taken_by s + n ≤ wire_length s)
 unfolding packet_answer
 packet_told s m n e = go (eqb m s.key.memory_length) (ltb (wire_length s) (taken_by s + n)) refl refl e
   where
-    go : (a b : Bool) → eqb m s.key.memory_length ≡ a → ltb (wire_length s) (taken_by s + n) ≡ b → refuse (not a) MemoryLength (refuse b LongPacket Done) ≡ Done
+    go : (a b : Bool) → eqb m s.key.memory_length ≡ a → ltb (wire_length s) (taken_by s + n) ≡ b → refuse (not a) MemoryLength (refuse b LongPacket (Ok tt)) ≡ Ok tt
         → (m ≡ s.key.memory_length) × (taken_by s + n ≤ wire_length s)
     go true false p q z = (eqb-true m _ p, ltb-false (wire_length s) (taken_by s + n) q)
     go true true p q z = let c : ◌≡◌ {A = ℕ} 0 1 = cc in absurd (omega arith)
     go false b p q z = let c : ◌≡◌ {A = ℕ} 0 1 = cc in absurd (omega arith)
 
--- ---- the result of packet, and memory after it
-
-module _ (s : Session) (memory bytes : List ℕ) where
-  -- A refused packet returns two zeros and the session as it was, and leaves memory as it was.
-  pub packet_refused : (o : Outcome) (r : Refusal) → o ≡ packet_answer s (length memory) (length bytes) → o ≡ Refused r
-      → (◌≡◌ {A = PacketResult} (record { outcome = o; taken = 0; written = 0; session = s }) (packet_result s (length memory) bytes)
-      × (memory ≡ memory_after_packet s memory bytes)
-      )
-  unfolding packet_result memory_after_packet
-  packet_refused o r a e = rw (← a, e) (refl, refl)
-
-  -- After its bytes are fed, an accepted packet returns `packet_result` and memory is `memory_after_packet`.
-  pub packet_done : packet_answer s (length memory) (length bytes) ≡ Done → (at : Cursor) → Walked s.key.layout (s.offset.0 + written (rule_of s) s.progress) at
-      → (f : FeedResult) (after : List ℕ) → Feeds (rule_of s) s.progress s.key.layout at memory bytes f after
-      → (◌≡◌ {A = PacketResult} (record { outcome = Done; taken = taken (rule_of s) f.progress; written = written (rule_of s) f.progress; session = with_progress s f.progress }) (packet_result s (length memory) bytes)
-      × (after ≡ memory_after_packet s memory bytes)
-      )
-  unfolding packet_result memory_after_packet
-  packet_done e at w f after g = rw (e, g.progress) (refl, g.stored.memory ∙ rw w.on)
-
 -- ---- "came from these calls" is kept
 
 -- The session of an accepted open came from these calls.
-pub came_opened : (k : Key) (n : ℕ) (offset : LayoutOffset) (data_length : ℕ) → CameFromCalls k → open_answer k n offset.0 data_length ≡ Done
+pub came_opened : (k : Key) (n : ℕ) (offset : LayoutOffset) (data_length : ℕ) → CameFromCalls k → open_answer k n offset.0 data_length ≡ Ok tt
     → SessionFromCalls (open_result k n offset data_length).session
 unfolding fed
 came_opened k n offset data_length c o = record {
@@ -311,7 +259,7 @@ unfolding packet_result
 came_packet s f m bytes b = go (packet_answer s m (length bytes)) refl
   where
     go : (o : Outcome) → packet_answer s m (length bytes) ≡ o → SessionFromCalls (packet_result s m bytes).session
-    go Done e =
+    go (Ok tt) e =
         let t : taken_by s ≡ length f.came = rw f.progress (taken-all s (came_valid s.key f.key) f.opened f.came) in
         rw e (record {
           key = f.key;
@@ -319,9 +267,9 @@ came_packet s f m bytes b = go (packet_answer s m (length bytes)) refl
           came = f.came ++ bytes;
           bytes = bytes_append f.came bytes f.bytes b;
           fits = rw (length-append f.came bytes) (omega (arith, t, (packet_told s m (length bytes) e).1));
-          progress = rw f.progress (sym (fed-append (rule_of s) (begun (rule_of s) Empty) f.came bytes));
+          progress = rw f.progress (sym (fed-append (rule_of s) (begun (rule_of s) None) f.came bytes));
         })
-    go (Refused r) e = rw e f
+    go (Err r) e = rw e f
 
 -- The key that an accepted finish or an abandon returns came from these calls.
 pub came_ended : (s : Session) → SessionFromCalls s → CameFromCalls (ended_key s)

@@ -1,5 +1,6 @@
 -- These laws show that memory, recorded error and totals of a session are those of 01's packet rule, whatever bytes are
 -- still to come.
+use Rattle.std.specs.Prelude.{None, Ok}
 use mathlib.Core.Path.{◌≡◌, refl, sym, ap, ◌∙◌}
 use mathlib.Core.List.{List, [], ◌++◌, append_assoc, append-nil}
 use Prim.Native.Nat.{ℕ, ◌+◌, ◌*◌, ◌/◌, ◌%◌, ◌≤◌, ◌<◌}
@@ -14,10 +15,7 @@ use Rattle.layout.specs.declared.offset.LayoutOffset.{LayoutOffset}
 use Rattle.layout.specs.Pieces.{places}
 use Rattle.layout.specs.Moves.{scattered}
 use Rattle.key.specs.declared.Key.{Key}
-use Rattle.slot.specs.declared.Slot.{Slot}
-use Rattle.slot.specs.declared.Slot.TheVariants.{Empty}
-use Rattle.key.specs.declared.Outcome.TheVariants.{Done}
-use Rattle.slot.specs.Slots.{keep}
+use Rattle.slot.specs.Slots.{Slot, keep}
 use Rattle.key.specs.Keys.{with_slot, CameFromCalls}
 use Rattle.key.specs.Streams.{stream_length}
 use Rattle.key.specs.Admitting.{open_answer, transfer_answer}
@@ -42,13 +40,13 @@ one_way : (i j u a b : ℕ) → i * u + a ≡ j * u + b → a < u → b < u → 
 one_way i j u a b e h k =
     elim (dec_lt i j) [ yes l ↦ absurd (omega (arith, unit_within i j u l)) | no l ↦ elim (dec_lt j i) [ yes g ↦ absurd (omega (arith, unit_within j i u g)) | no g ↦ omega arith ] ]
 
-module _ (k : Key) (at_open : List ℕ) (offset : LayoutOffset) (data_length : ℕ) (c : CameFromCalls k) (o : open_answer k (length at_open) offset.0 data_length ≡ Done) where
+module _ (k : Key) (at_open : List ℕ) (offset : LayoutOffset) (data_length : ℕ) (c : CameFromCalls k) (o : open_answer k (length at_open) offset.0 data_length ≡ Ok tt) where
   -- The memory lent to an accepted open has the length that the key was configured with.
   pub lent_length : length at_open ≡ k.memory_length
   lent_length = (admitted k (length at_open) offset.0 data_length (came_valid k c) o).lent
 
   -- Open accepts a memory of the length that the key was configured with.
-  pub opened_so : open_answer k k.memory_length offset.0 data_length ≡ Done
+  pub opened_so : open_answer k k.memory_length offset.0 data_length ≡ Ok tt
   opened_so = rw lent_length at o
 
   module _ (came : List ℕ) (b : Bytes came) (h : length came ≤ stream_length k.signature.wire data_length) where
@@ -57,12 +55,12 @@ module _ (k : Key) (at_open : List ℕ) (offset : LayoutOffset) (data_length : �
     session_at = record { key = c; opened = opened_so; came = came; bytes = b; fits = h; progress = refl }
 
     -- The engine has reached the progress that the transfer rule states for the bytes `came`.
-    R : Reached (receive_rule k.signature) Empty came (session_after k offset data_length came).progress (emitted (receive_rule k.signature) (begun (receive_rule k.signature) Empty) came)
-    R = (reached_after (receive_rule k.signature) (engine_ready (session_after k offset data_length came) (came_valid k c) opened_so).matched Empty came b).0
+    R : Reached (receive_rule k.signature) None came (session_after k offset data_length came).progress (emitted (receive_rule k.signature) (begun (receive_rule k.signature) None) came)
+    R = (reached_after (receive_rule k.signature) (engine_ready (session_after k offset data_length came) (came_valid k c) opened_so).matched None came b).0
 
     -- The current unit is not whole.
     begun-unit : (session_after k offset data_length came).progress.input.at < in_unit (receive_rule k.signature)
-    begun-unit = (reached_after (receive_rule k.signature) (engine_ready (session_after k offset data_length came) (came_valid k c) opened_so).matched Empty came b).1
+    begun-unit = (reached_after (receive_rule k.signature) (engine_ready (session_after k offset data_length came) (came_valid k c) opened_so).matched None came b).1
 
     -- The whole units and the bytes of the current unit are the bytes that came.
     counted : (session_after k offset data_length came).progress.input.index * in_unit (receive_rule k.signature) + (session_after k offset data_length came).progress.input.at ≡ length came
@@ -85,10 +83,10 @@ module _ (k : Key) (at_open : List ℕ) (offset : LayoutOffset) (data_length : �
         rw (R.index, units, R.at, length-take (in_block r) R.left) (omega (arith, over, R.under))
 
     -- As many bytes are emitted as 01's packet rule says.
-    shown-length : length (emitted (receive_rule k.signature) (begun (receive_rule k.signature) Empty) came) ≡ shown_after (receive_rule k.signature) (length came)
+    shown-length : length (emitted (receive_rule k.signature) (begun (receive_rule k.signature) None) came) ≡ shown_after (receive_rule k.signature) (length came)
     shown-length =
         let r = receive_rule k.signature in
-        let w = (fed-after r (begun r Empty) (session_begun (session_after k offset data_length came) (came_valid k c) opened_so) (some_unit (session_after k offset data_length came) (came_valid k c) opened_so) came).2 in
+        let w = (fed-after r (begun r None) (session_begun (session_after k offset data_length came) (came_valid k c) opened_so) (some_unit (session_after k offset data_length came) (came_valid k c) opened_so) came).2 in
         omega (arith, w, written_is, zero-mul (out_unit r))
 
     -- Feeding the bytes that came and the rest of the wire stream produces the transfer rule's output and first error.
@@ -98,12 +96,12 @@ module _ (k : Key) (at_open : List ℕ) (offset : LayoutOffset) (data_length : �
 
     -- The bytes emitted so far are the first of the transfer rule's output, whatever bytes are still to come.
     shown_is : (rest : List ℕ) → Bytes rest → length (came ++ rest) ≡ stream_length k.signature.wire data_length
-        → emitted (receive_rule k.signature) (begun (receive_rule k.signature) Empty) came
+        → emitted (receive_rule k.signature) (begun (receive_rule k.signature) None) came
         ≡ take (shown_after (receive_rule k.signature) (length came)) (output_of (receive_rule k.signature) (came ++ rest) data_length)
     shown_is rest d e =
         let r = receive_rule k.signature in
-        rw (← (all rest d e).shown, emitted-append r (begun r Empty) came rest)
-        (sym (take_at (emitted r (begun r Empty) came) (emitted r (fed r (begun r Empty) came) rest) (shown_after r (length came)) shown-length))
+        rw (← (all rest d e).shown, emitted-append r (begun r None) came rest)
+        (sym (take_at (emitted r (begun r None) came) (emitted r (fed r (begun r None) came) rest) (shown_after r (length came)) shown-length))
 
     -- The session's slot holds the transfer rule's first error of the whole units, whatever bytes are still to come.
     error_is : (rest : List ℕ) → (session_after k offset data_length came).progress.slot ≡ first_error (receive_rule k.signature) (came ++ rest) (length came / in_unit (receive_rule k.signature))
@@ -113,12 +111,12 @@ module _ (k : Key) (at_open : List ℕ) (offset : LayoutOffset) (data_length : �
         R.error ∙ rw (parts, ← units) (sym (errors_first r R.past (R.left ++ rest) (session_after k offset data_length came).progress.input.index (omega (arith, R.past_length))))
 
     -- One receive of the bytes that came is accepted if they are the whole wire stream.
-    answer_done : stream_length k.signature.wire data_length ≤ length came → transfer_answer k (length at_open) offset.0 data_length (length came) ≡ Done
+    answer_done : stream_length k.signature.wire data_length ≤ length came → transfer_answer k (length at_open) offset.0 data_length (length came) ≡ Ok tt
     unfolding transfer_answer
     answer_done l = rw (o, le-ltb (length came) (stream_length k.signature.wire data_length) l)
 
     -- Memory and recorded error are those of 01's packet rule, whatever bytes are still to come.
-    pub stands_at : Stands k at_open offset.0 data_length came (scattered at_open (drop offset.0 (places k.layout)) (emitted (receive_rule k.signature) (begun (receive_rule k.signature) Empty) came))
+    pub stands_at : Stands k at_open offset.0 data_length came (scattered at_open (drop offset.0 (places k.layout)) (emitted (receive_rule k.signature) (begun (receive_rule k.signature) None) came))
         (keep k.slot (session_after k offset data_length came).progress.slot)
     unfolding memory_after_receive receive_result
     stands_at = record {

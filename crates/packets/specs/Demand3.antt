@@ -1,13 +1,11 @@
 -- The order's demand 3, as one statement about a list of calls as a whole.
 --
 --   Demand3     the statement
-use Rattle.std.specs.Prelude.{◌≡◌, List, [], ℕ, length}
+use Rattle.std.specs.Prelude.{◌≡◌, List, [], ℕ, length, Ok}
 use Rattle.layout.specs.declared.offset.LayoutOffset.{LayoutOffset}
 use Rattle.key.specs.declared.Key.{Key}
-use Rattle.key.specs.declared.Outcome.TheVariants.{Done}
 use Rattle.key.specs.Keys.{CameFromCalls}
-use Rattle.packets.specs.declared.OpenResult.{OpenResult}
-use Rattle.packets.specs.Sessions.{open_result}
+use Rattle.packets.specs.Sessions.{OpenResult, open_result}
 use Rattle.packets.specs.PacketRule.{Call, Follows}
 use Rattle.packets.specs.Lists.{Made}
 
@@ -22,7 +20,7 @@ Demand3 =
     → CameFromCalls k
     → (answer : OpenResult)
     → answer ≡ open_result k (length memory) offset data_length
-    → answer.outcome ≡ Done
+    → answer.outcome ≡ Ok tt
     → (calls : List Call)
     → Made answer.session memory calls
     → Follows k memory offset.0 data_length [] memory answer.session calls

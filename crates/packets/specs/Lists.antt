@@ -8,17 +8,13 @@
 --   EveryListIsMade             each list that is played can be made
 --   request_of call              what a call asked for
 --   EveryMadeListIsPlayed       each list that can be made is played for its own requests
-use Rattle.std.specs.Prelude.{◌≡◌, List, [], ◌∷◌, map, ℕ, length, get_or}
+use Rattle.std.specs.Prelude.{◌≡◌, List, [], ◌∷◌, map, ℕ, length, get_or, Ok, Err}
 use Rattle.guard.specs.Guards.{Bytes}
-use Rattle.key.specs.declared.Outcome.{Outcome}
-use Rattle.key.specs.declared.Outcome.TheVariants.{Done, Refused}
-use Rattle.key.specs.declared.Refusal.{Refusal}
+use Rattle.key.specs.Numbers.{Outcome}
+use Rattle.key.specs.declared.refusal.Refusal.{Refusal}
 use Rattle.transfer.specs.Transferring.{becomes}
 use Rattle.packets.specs.declared.Session.{Session}
-use Rattle.packets.specs.declared.PacketResult.{PacketResult}
-use Rattle.packets.specs.declared.FinishResult.{FinishResult}
-use Rattle.packets.specs.declared.AbandonResult.{AbandonResult}
-use Rattle.packets.specs.Sessions.{packet_answer, packet_result, memory_after_packet, finish_result, abandon_result}
+use Rattle.packets.specs.Sessions.{PacketResult, FinishResult, AbandonResult, packet_answer, packet_result, memory_after_packet, finish_result, abandon_result}
 use Rattle.packets.specs.PacketRule.{Call}
 
 -- The equations are those that the functions ensure. An accepted packet was lent the transfer's memory as it is, a
@@ -29,24 +25,24 @@ pub data Made : Session → List ℕ → List Call → Type 0 where
       → Bytes bytes
       → answer ≡ packet_result s (length now) bytes
       → after ≡ memory_after_packet s now bytes
-      → answer.outcome ≡ Done
+      → answer.outcome ≡ Ok tt
       → Made answer.session after calls
       → Made s now (Call.packet now bytes answer after ∷ calls)
   refused : {s : Session} {now : List ℕ} (lent bytes : List ℕ) (answer : PacketResult) (after : List ℕ) (r : Refusal)
       {calls : List Call}
       → answer ≡ packet_result s (length lent) bytes
       → after ≡ memory_after_packet s lent bytes
-      → answer.outcome ≡ Refused r
+      → answer.outcome ≡ Err r
       → Made answer.session now calls
       → Made s now (Call.packet lent bytes answer after ∷ calls)
   early : {s : Session} {now : List ℕ} (answer : FinishResult) (r : Refusal) {calls : List Call}
       → answer ≡ finish_result s
-      → answer.outcome ≡ Refused r
+      → answer.outcome ≡ Err r
       → Made answer.session now calls
       → Made s now (Call.finish answer ∷ calls)
   finished : {s : Session} {now : List ℕ} (answer : FinishResult)
       → answer ≡ finish_result s
-      → answer.outcome ≡ Done
+      → answer.outcome ≡ Ok tt
       → Made s now (Call.finish answer ∷ [])
   abandoned : {s : Session} {now : List ℕ} (answer : AbandonResult)
       → answer ≡ abandon_result s
@@ -60,8 +56,8 @@ pub data Request : Type 0 where
 
 -- The calls after a finish: none if it was accepted.
 abbrev pub unless_done : (outcome : Outcome) (calls : List Call) → List Call
-unless_done Done calls = []
-unless_done (Refused r) calls = calls
+unless_done (Ok tt) calls = []
+unless_done (Err r) calls = calls
 
 -- The list of calls that these requests lead to. A packet that would be accepted is lent the transfer's memory as it
 -- is, since that is the caller's duty; one that would be refused is lent the memory of the request. The list ends with

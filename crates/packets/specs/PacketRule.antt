@@ -12,18 +12,15 @@
 --   HandedBack came given returned     a refused call hands back the session that it was given
 --   Accepted, Kept, Early, Ended       what each kind of call returns
 --   Follows came now s calls           the list, made on session s, follows the packet rule
-use Rattle.std.specs.Prelude.{◌≡◌, not, List, [], ◌∷◌, ◌++◌, ℕ, ◌+◌, ◌*◌, ◌/◌, ◌%◌, ◌≤◌, min, eqb, ltb, length, take, drop}
+use Rattle.std.specs.Prelude.{◌≡◌, not, List, [], ◌∷◌, ◌++◌, ℕ, ◌+◌, ◌*◌, ◌/◌, ◌%◌, ◌≤◌, min, eqb, ltb, length, take, drop, Ok, Err}
 use Rattle.guard.specs.Guards.{Bytes}
 use Rattle.layout.specs.Pieces.{places}
 use Rattle.layout.specs.Moves.{scattered}
-use Rattle.slot.specs.declared.Slot.{Slot}
-use Rattle.slot.specs.Slots.{keep}
+use Rattle.slot.specs.Slots.{Slot, keep}
 use Rattle.key.specs.declared.Key.{Key}
-use Rattle.key.specs.declared.Outcome.{Outcome}
-use Rattle.key.specs.declared.Outcome.TheVariants.{Done, Refused}
-use Rattle.key.specs.declared.Refusal.{Refusal}
-use Rattle.key.specs.declared.Refusal.TheVariants.{MemoryLength, LongPacket, BytesToCome}
-use Rattle.key.specs.Numbers.{refuse}
+use Rattle.key.specs.Numbers.{Outcome, refuse}
+use Rattle.key.specs.declared.refusal.Refusal.{Refusal}
+use Rattle.key.specs.declared.refusal.Refusal.TheVariants.{MemoryLength, LongPacket, BytesToCome}
 use Rattle.key.specs.Keys.{with_slot, CameFromCalls}
 use Rattle.key.specs.Streams.{stream_length}
 use Rattle.engine.specs.declared.Rule.{Rule}
@@ -32,10 +29,7 @@ use Rattle.engine.specs.Transfers.{first_error}
 use Rattle.transfer.specs.Rules.{receive_rule, output_of}
 use Rattle.transfer.specs.Transferring.{receive_result, memory_after_receive}
 use Rattle.packets.specs.declared.Session.{Session}
-use Rattle.packets.specs.declared.PacketResult.{PacketResult}
-use Rattle.packets.specs.declared.FinishResult.{FinishResult}
-use Rattle.packets.specs.declared.AbandonResult.{AbandonResult}
-use Rattle.packets.specs.Sessions.{session_after, recorded, SessionFromCalls}
+use Rattle.packets.specs.Sessions.{PacketResult, FinishResult, AbandonResult, session_after, recorded, SessionFromCalls}
 
 -- 01: with q whole units and r bytes over, memory holds the first q × (output unit) + min(r, block size) output bytes.
 abbrev pub shown_after : (r : Rule) (n : ℕ) → ℕ
@@ -76,7 +70,7 @@ module _ (k : Key) (at_open : List ℕ) (offset data_length : ℕ) where
     pub error : (rest : List ℕ) → Bytes rest → length (came ++ rest) ≡ wire → found ≡ error_after came rest
     pub whole :
         length came ≡ wire
-        → ((receive_result k at_open came offset data_length).outcome ≡ Done)
+        → ((receive_result k at_open came offset data_length).outcome ≡ Ok tt)
         × (now ≡ memory_after_receive k at_open came offset data_length)
         × (with_slot k found ≡ (receive_result k at_open came offset data_length).key)
 
@@ -84,11 +78,11 @@ module _ (k : Key) (at_open : List ℕ) (offset data_length : ℕ) where
   abbrev pub packet_rule : (came : List ℕ) (lent n : ℕ) → Outcome
   packet_rule came lent n =
       refuse (not (eqb lent k.memory_length)) MemoryLength
-      (refuse (ltb wire (length came + n)) LongPacket Done)
+      (refuse (ltb wire (length came + n)) LongPacket (Ok tt))
 
   -- 01's answer for finish: 13 while wire bytes are to come.
   abbrev pub finish_rule : (came : List ℕ) → Outcome
-  finish_rule came = refuse (ltb (length came) wire) BytesToCome Done
+  finish_rule came = refuse (ltb (length came) wire) BytesToCome (Ok tt)
 
   -- The session of this transfer after the bytes `came`.
   abbrev pub session_after_bytes : (came : List ℕ) → Session
@@ -97,7 +91,7 @@ module _ (k : Key) (at_open : List ℕ) (offset data_length : ℕ) where
   -- An accepted packet returns the session after all bytes so far, and the totals since open, which are those of one
   -- receive once all bytes have come.
   pub record Accepted (came : List ℕ) (answer : PacketResult) (after : List ℕ) : Type 0 where
-    pub outcome : answer.outcome ≡ Done
+    pub outcome : answer.outcome ≡ Ok tt
     pub taken : answer.taken ≡ length came
     pub written : answer.written ≡ shown_after rule (length came)
     pub stands : Stands came after (recorded answer.session)
@@ -117,7 +111,7 @@ module _ (k : Key) (at_open : List ℕ) (offset data_length : ℕ) where
   -- A refused packet returns its number and two zeros, and nothing changes.
   pub record Kept (came now : List ℕ) (s : Session) (r : Refusal) (lent : List ℕ) (answer : PacketResult)
       (after : List ℕ) : Type 0 where
-    pub outcome : answer.outcome ≡ Refused r
+    pub outcome : answer.outcome ≡ Err r
     pub taken : answer.taken ≡ 0
     pub written : answer.written ≡ 0
     pub untouched : after ≡ lent
@@ -126,13 +120,13 @@ module _ (k : Key) (at_open : List ℕ) (offset data_length : ℕ) where
 
   -- An early finish returns its number, and nothing changes.
   pub record Early (came now : List ℕ) (s : Session) (r : Refusal) (answer : FinishResult) : Type 0 where
-    pub outcome : answer.outcome ≡ Refused r
+    pub outcome : answer.outcome ≡ Err r
     pub stands : Stands came now (recorded answer.session)
     pub back : HandedBack came s answer.session
 
   -- The key that finish or abandon returns: the one given to open with the recorded error in its slot.
   pub record Ended (came now : List ℕ) (outcome : Outcome) (returned : Key) : Type 0 where
-    pub done : outcome ≡ Done
+    pub done : outcome ≡ Ok tt
     pub key : returned ≡ with_slot k returned.slot
     pub stands : Stands came now returned.slot
     pub calls : CameFromCalls returned
@@ -143,23 +137,23 @@ module _ (k : Key) (at_open : List ℕ) (offset data_length : ℕ) where
   pub data Follows : List ℕ → List ℕ → Session → List Call → Type 0 where
     none : {came now : List ℕ} {s : Session} → length came ≤ wire → Follows came now s []
     accepted : {came now lent bytes after : List ℕ} {s : Session} {answer : PacketResult} {calls : List Call}
-        → packet_rule came (length lent) (length bytes) ≡ Done
+        → packet_rule came (length lent) (length bytes) ≡ Ok tt
         → Accepted (came ++ bytes) answer after
         → Follows (came ++ bytes) after answer.session calls
         → Follows came now s (packet lent bytes answer after ∷ calls)
     refused : {came now lent bytes after : List ℕ} {s : Session} {answer : PacketResult} {calls : List Call}
         (r : Refusal)
-        → packet_rule came (length lent) (length bytes) ≡ Refused r
+        → packet_rule came (length lent) (length bytes) ≡ Err r
         → Kept came now s r lent answer after
         → Follows came now answer.session calls
         → Follows came now s (packet lent bytes answer after ∷ calls)
     early : {came now : List ℕ} {s : Session} {answer : FinishResult} {calls : List Call} (r : Refusal)
-        → finish_rule came ≡ Refused r
+        → finish_rule came ≡ Err r
         → Early came now s r answer
         → Follows came now answer.session calls
         → Follows came now s (finish answer ∷ calls)
     finished : {came now : List ℕ} {s : Session} {answer : FinishResult}
-        → finish_rule came ≡ Done
+        → finish_rule came ≡ Ok tt
         → length came ≡ wire
         → Ended came now answer.outcome answer.key
         → Follows came now s (finish answer ∷ [])

@@ -3,78 +3,64 @@ ghost use Rattle.std.specs.Prelude.{◌≡◌, length};
 ghost use Rattle.packets.specs.Sessions as sessions;
 ghost use Rattle.packets.specs.Sessions.{SessionValid};
 
-use crate::{PacketResult, Session};
-use key::{Outcome, Refusal};
+use crate::Session;
+use key::Refusal;
+use transfer::Totals;
 
-// Returns the number of wire bytes accepted so far.
-pub(crate) fn taken_by(s: Session) -> u64
-    requires { SessionValid s }
-    ensures { result ≡ sessions.taken_by s }
-{
-    let progress = s.progress;
-    let key = s.key;
-    engine::taken(transfer::receive_rule(key.signature), progress)
-}
-
-// Returns the number of wire bytes of the whole transfer.
-pub(crate) fn wire_length(s: Session) -> u64
-    requires { SessionValid s }
-    ensures { result ≡ sessions.wire_length s }
-{
-    let key = s.key;
-    let signature = key.signature;
-    key::stream_length(signature.wire, s.data_length)
-}
-
-// Refuses a wrong memory length (8), then a packet longer than the bytes still expected (12).
-fn packet_answer(s: Session, memory: &[u8], bytes: &[u8]) -> Outcome
-    requires { SessionValid s }
-    ensures { result ≡ sessions.packet_answer s (length memory.now) (length bytes.now) }
-{
-    let key = s.key;
-    if memory.len() as u64 != key.memory_length {
-        return Outcome::Refused(Refusal::MemoryLength);
+impl Session {
+    // Returns the number of wire bytes accepted so far.
+    #[tactic(auto, using(crate::proofs::PacketLaws::valid_countable))]
+    pub(crate) fn taken(&self) -> u64
+        requires { SessionValid self.now }
+        ensures { result ≡ sessions.taken_by self.now }
+    {
+        transfer::receive_rule(self.key.signature).taken(self.progress)
     }
-    if wire_length(s) - taken_by(s) < bytes.len() as u64 {
-        return Outcome::Refused(Refusal::LongPacket);
-    }
-    Outcome::Done
-}
 
-// Takes the next wire bytes, which may end anywhere, and returns the totals since open.
-pub fn packet(session: Session, memory: &mut [u8], bytes: &[u8]) -> PacketResult
-    requires { SessionValid session }
-    ensures value { result ≡ sessions.packet_result session (length memory.old) bytes.now }
-    ensures memory_after { memory.new ≡ sessions.memory_after_packet session memory.old bytes.now }
-{
-    let outcome = packet_answer(session, memory, bytes);
-    let Outcome::Done = outcome else {
-        return PacketResult {
-            outcome,
-            taken: 0,
-            written: 0,
-            session,
-        };
-    };
-    let key = session.key;
-    let offset = session.offset;
-    let before = session.progress;
-    // A local of its own, because the compiler would copy a field of the key.
-    let layout = key.layout;
-    let rule = transfer::receive_rule(key.signature);
-    let at = layout::walk(layout, offset.ahead(engine::written(rule, before)));
-    let fed = engine::feed(rule, before, layout, memory, at, bytes);
-    let progress = fed.progress;
-    let next = Session {
-        key,
-        offset,
-        data_length: session.data_length,
-        progress,
-    };
-    PacketResult {
-        outcome: Outcome::Done,
-        taken: engine::taken(rule, progress),
-        written: engine::written(rule, progress),
-        session: next,
+    // Returns the number of wire bytes of the whole transfer.
+    pub(crate) fn wire_length(&self) -> u64
+        requires { SessionValid self.now }
+        ensures { result ≡ sessions.wire_length self.now }
+    {
+        key::stream_length(self.key.signature.wire, self.data_length)
+    }
+
+    // Refuses a wrong memory length (8), then a packet longer than the bytes still expected (12).
+    #[tactic(auto, unfolding(crate::specs::Sessions::packet_answer))]
+    fn admit_packet(&self, memory: &[u8], bytes: &[u8]) -> Result<(), Refusal>
+        requires { SessionValid self.now }
+        ensures { result ≡ sessions.packet_answer self.now (length memory.now) (length bytes.now) }
+    {
+        if memory.len() as u64 != self.key.memory_length {
+            return Err(Refusal::MemoryLength);
+        }
+        if self.wire_length() - self.taken() < bytes.len() as u64 {
+            return Err(Refusal::LongPacket);
+        }
+        Ok(())
+    }
+
+    // Takes the next wire bytes, which may end anywhere, and returns the totals since open. If they are refused, the
+    // session and memory are unchanged.
+    #[tactic(auto, unfolding(crate::specs::Sessions::packet_result, crate::specs::Sessions::memory_after_packet))]
+    pub fn packet(&mut self, memory: &mut [u8], bytes: &[u8]) -> Result<Totals, Refusal>
+        requires { SessionValid self.old }
+        ensures totals { result ≡ sessions.packet_totals (sessions.packet_result self.old (length memory.old) bytes.now) }
+        ensures session_after { self.new ≡ (sessions.packet_result self.old (length memory.old) bytes.now).session }
+        ensures memory_after { memory.new ≡ sessions.memory_after_packet self.old memory.old bytes.now }
+    {
+        self.admit_packet(memory, bytes)?;
+        let before = self.progress;
+        // A local of its own, because the compiler would copy a field of the key.
+        let layout = self.key.layout;
+        let rule = transfer::receive_rule(self.key.signature);
+        let at = layout::walk(layout, self.offset.ahead(rule.written(before)));
+        let fed = rule.feed(before, layout, memory, at, bytes);
+        let progress = fed.progress;
+        self.progress = progress;
+        Ok(Totals {
+            taken: rule.taken(progress),
+            written: rule.written(progress),
+        })
     }
 }

@@ -6,35 +6,38 @@ ghost use Rattle.packets.specs.Sessions as sessions;
 
 use crate::Session;
 use field::FIELD_SIZE;
-use key::Outcome;
 
 // Returns nothing: its contract states the length of an array as a fact for proofs.
 pub fn held_is_eight(held: [u8; FIELD_SIZE])
     ensures { length held ≡ field_bytes }
 {}
 
-// True if the session meets the precondition of packet, finish and abandon. Every session from these calls does; one
-// rebuilt from a C struct may not.
-pub fn session_valid(session: Session) -> bool
-    requires { KeyValid session.key }
-    ensures { (result ≡ sessions.session_valid session) × (length session.progress.held ≡ field_bytes) }
-{
-    let key = session.key;
-    let progress = session.progress;
-    let held = progress.held;
-    held_is_eight(held);
-    let outcome = key::admit(key, key.memory_length, session.offset, session.data_length);
-    let Outcome::Done = outcome else {
-        return false;
-    };
-    let signature = key.signature;
-    let rule = transfer::receive_rule(signature);
-    if engine::in_step(rule, progress) {
-        let wire = key::stream_length(signature.wire, session.data_length);
-        if wire < progress.input.index {
+impl Session {
+    // True if the session meets the precondition of packet, finish and abandon. Every session from these calls does; one
+    // rebuilt from a C struct may not.
+    #[tactic(auto, unfolding(crate::specs::Sessions::session_valid))]
+    pub fn is_valid(&self) -> bool
+        requires { KeyValid self.now.key }
+        ensures valid { result ≡ sessions.session_valid self.now }
+        ensures eight_held { length self.now.progress.held ≡ field_bytes }
+    {
+        let progress = self.progress;
+        held_is_eight(progress.held);
+        let outcome = self
+            .key
+            .admit(self.key.memory_length, self.offset, self.data_length);
+        let Ok(()) = outcome else {
             return false;
+        };
+        let signature = self.key.signature;
+        let rule = transfer::receive_rule(signature);
+        if rule.in_step(progress) {
+            let wire = key::stream_length(signature.wire, self.data_length);
+            if wire < progress.input.index {
+                return false;
+            }
+            return rule.taken(progress) <= wire;
         }
-        return engine::taken(rule, progress) <= wire;
+        false
     }
-    false
 }

@@ -1,49 +1,36 @@
-// Fills memory and wire.
-ghost use Rattle.std.specs.Prelude.{◌^◌, ◌<◌, ◌≤◌, length};
-
-use crate::lines;
+// Fills memory and wire, and digests them.
+use crate::lines::Fields;
 
 // A pattern is a sequence of numbers: each is the last one times a factor plus an increment, modulo 2^32.
-const FACTOR: u64 = 1103515245;
+const FACTOR: u32 = 1103515245;
 
-const INCREMENT: u64 = 12345;
+const INCREMENT: u32 = 12345;
 
-const MODULUS: u64 = 0x1_0000_0000;
+const DIGEST_FACTOR: u64 = 257;
 
-// Returns the number after x in a pattern.
-fn next_random(x: u64) -> u64
-    requires { x < 2 ^ 32 }
-    ensures { result < 2 ^ 32 }
-{
-    (x * FACTOR + INCREMENT) % MODULUS
-}
+// The largest prime number below 2^32.
+const DIGEST_MODULUS: u64 = 4294967291;
 
 // Fills a buffer with the pattern of this seed. Each byte is bits 16 to 23 of the next number.
-pub(crate) fn fill_pattern(buffer: &mut [u8], seed: u64) {
-    let mut x = seed % MODULUS;
-    let mut i = 0;
-    while i < buffer.len() {
-        x = next_random(x);
-        buffer[i] = (x / 0x1_0000 % 0x100) as u8;
-        i += 1;
-    }
-}
-
-// Sets the bytes of a buffer from an index on, and before the end, to one value.
-fn fill_range(buffer: &mut [u8], from: usize, end: usize, value: u8)
-    requires { end ≤ length buffer.old }
-{
-    let mut i = from;
-    while i < end {
-        buffer[i] = value;
-        i += 1;
+pub(crate) fn fill_pattern(buffer: &mut [u8], seed: u32) {
+    let mut x = seed;
+    for byte in buffer {
+        x = x.wrapping_mul(FACTOR).wrapping_add(INCREMENT);
+        *byte = ((x >> 16) & 0xFF) as u8;
     }
 }
 
 // Sets the bytes of a buffer that a line names to the value that it names.
-pub(crate) fn change_bytes(buffer: &mut [u8], line: &[u8]) {
-    let from = lines::bounded_length(line, 0, buffer.len());
-    let n = lines::bounded_length(line, 1, buffer.len() - from);
-    let value = (lines::number(line, 2) % 0x100) as u8;
-    fill_range(buffer, from, from + n, value);
+pub(crate) fn change_bytes(buffer: &mut [u8], fields: &mut Fields<'_>) {
+    let from = fields.length(buffer.len());
+    let n = fields.length(buffer.len() - from);
+    let value = fields.low();
+    buffer[from..from + n].fill(value);
+}
+
+// Returns the digest of a buffer, a number that differs for most different contents.
+pub(crate) fn digest(buffer: &[u8]) -> u32 {
+    buffer.iter().fold(1, |sum, byte| {
+        ((u64::from(sum) * DIGEST_FACTOR + u64::from(*byte)) % DIGEST_MODULUS) as u32
+    })
 }

@@ -1,254 +1,230 @@
 // Makes the calls that the lines name.
-ghost use Rattle.std.specs.Prelude.{◌<◌, length};
-
-use crate::lines::{bounded_length, number};
-use crate::{buffers, lines, settings};
+use crate::buffers::{change_bytes, digest, fill_pattern};
+use crate::lines::Fields;
+use crate::settings;
 use cstructs::{CKey, CSession};
-use std::io;
+use slot::ErrorNumbers;
+use std::{fmt, io};
 
-// The key and the session that the next call takes.
-#[derive(Clone, Copy)]
-struct State {
-    key: CKey,
-    session: CSession,
+// The size of memory, and that of wire.
+const BUFFER_SIZE: usize = 16384;
+
+// What a call returned, as far as it is printed.
+#[derive(Drop)]
+enum Printed {
+    // A line whose letter names no call.
+    NoCall,
+    Answer(char, u64),
+    Transfer {
+        letter: char,
+        answer: u64,
+        taken: u64,
+        written: u64,
+    },
+    Check(u64, ErrorNumbers),
 }
 
-// Returns the state before the first call: a fresh key and no session. Open refuses a fresh key, and the session that
-// it returns is none.
-fn fresh_state() -> State {
-    let key = capi::garoalva_fresh();
-    let o = capi::garoalva_open(key, b"", 0, 0);
-    let session = o.session;
-    State { key, session }
-}
-
-// Returns the state with the key's seal cleared, so that the C struct is no key.
-fn clear_seal(state: State) -> State {
-    let mut key = state.key;
-    key.seal = 0;
-    let session = state.session;
-    State { key, session }
-}
-
-// Returns the state with the seal of a fresh key in its key. After an accepted open, this is a copy of the key that was
-// passed to open.
-fn restore_seal(state: State) -> State {
-    let fresh = capi::garoalva_fresh();
-    let mut key = state.key;
-    key.seal = fresh.seal;
-    let session = state.session;
-    State { key, session }
-}
-
-fn print_answer(rt: &impl Print, letter: &[u8], answer: u64) -> io::Result<()> {
-    lines::print_text(rt, letter)?;
-    lines::print_number(rt, answer)
-}
-
-fn print_totals(
-    rt: &impl Print,
-    letter: &[u8],
-    answer: u64,
-    taken: u64,
-    written: u64,
-) -> io::Result<()> {
-    print_answer(rt, letter, answer)?;
-    lines::print_number(rt, taken)?;
-    lines::print_number(rt, written)
-}
-
-fn configure(rt: &impl Print, state: State, line: &[u8], memory: &[u8]) -> io::Result<State> {
-    let m = bounded_length(line, 0, memory.len());
-    let configuration = settings::read_configuration(line);
-    let c = capi::garoalva_configure(state.key, &memory[0..m], configuration);
-    print_answer(rt, b"C", c.answer)?;
-    let key = c.key;
-    let session = state.session;
-    Ok(State { key, session })
-}
-
-fn send(
-    rt: &impl Print,
-    state: State,
-    line: &[u8],
-    memory: &[u8],
-    wire: &mut [u8],
-) -> io::Result<State> {
-    let m = bounded_length(line, 0, memory.len());
-    let w = bounded_length(line, 1, wire.len());
-    let offset = number(line, 2);
-    let data_length = number(line, 3);
-    let t = capi::garoalva_send(
-        state.key,
-        &memory[0..m],
-        &mut wire[0..w],
-        offset,
-        data_length,
-    );
-    print_totals(rt, b"S", t.answer, t.taken, t.written)?;
-    let key = t.key;
-    let session = state.session;
-    Ok(State { key, session })
-}
-
-fn receive(
-    rt: &impl Print,
-    state: State,
-    line: &[u8],
-    memory: &mut [u8],
-    wire: &[u8],
-) -> io::Result<State> {
-    let m = bounded_length(line, 0, memory.len());
-    let w = bounded_length(line, 1, wire.len());
-    let offset = number(line, 2);
-    let data_length = number(line, 3);
-    let t = capi::garoalva_receive(
-        state.key,
-        &mut memory[0..m],
-        &wire[0..w],
-        offset,
-        data_length,
-    );
-    print_totals(rt, b"R", t.answer, t.taken, t.written)?;
-    let key = t.key;
-    let session = state.session;
-    Ok(State { key, session })
-}
-
-fn check(rt: &impl Print, state: State) -> io::Result<State> {
-    let c = capi::garoalva_check(state.key);
-    print_answer(rt, b"K", c.answer)?;
-    let error = c.error;
-    lines::print_number(rt, error.error_type as u64)?;
-    lines::print_number(rt, error.actual as u64)?;
-    lines::print_number(rt, error.expected as u64)?;
-    lines::print_number(rt, error.offset as u64)?;
-    lines::print_number(rt, error.differing as u64)?;
-    let key = c.key;
-    let session = state.session;
-    Ok(State { key, session })
-}
-
-fn open(rt: &impl Print, state: State, line: &[u8], memory: &[u8]) -> io::Result<State> {
-    let m = bounded_length(line, 0, memory.len());
-    let offset = number(line, 1);
-    let data_length = number(line, 2);
-    let o = capi::garoalva_open(state.key, &memory[0..m], offset, data_length);
-    print_answer(rt, b"O", o.answer)?;
-    if o.answer != 0 {
-        return Ok(state);
-    }
-    let key = o.key;
-    let session = o.session;
-    Ok(State { key, session })
-}
-
-fn packet(
-    rt: &impl Print,
-    state: State,
-    line: &[u8],
-    memory: &mut [u8],
-    wire: &[u8],
-) -> io::Result<State> {
-    let m = bounded_length(line, 0, memory.len());
-    let from = bounded_length(line, 1, wire.len());
-    let end = from + bounded_length(line, 2, wire.len() - from);
-    let p = capi::garoalva_packet(state.session, &mut memory[0..m], &wire[from..end]);
-    print_totals(rt, b"B", p.answer, p.taken, p.written)?;
-    let key = state.key;
-    let session = p.session;
-    Ok(State { key, session })
-}
-
-fn finish(rt: &impl Print, state: State) -> io::Result<State> {
-    let f = capi::garoalva_finish(state.session);
-    print_answer(rt, b"F", f.answer)?;
-    if f.answer != 0 {
-        return Ok(state);
-    }
-    let key = f.key;
-    let session = f.session;
-    Ok(State { key, session })
-}
-
-fn abandon(rt: &impl Print, state: State) -> io::Result<State> {
-    let a = capi::garoalva_abandon(state.session);
-    print_answer(rt, b"A", a.answer)?;
-    if a.answer != 0 {
-        return Ok(state);
-    }
-    let key = a.key;
-    let fresh = fresh_state();
-    let session = fresh.session;
-    Ok(State { key, session })
-}
-
-// Makes the call that a line names by its letter, and prints what it returns.
-fn make_call(
-    rt: &impl Print,
-    state: State,
-    line: &[u8],
-    memory: &mut [u8],
-    wire: &mut [u8],
-) -> io::Result<State>
-    requires { 0 < length line.now }
-{
-    match line[0] {
-        b'C' => configure(rt, state, line, memory),
-        b'S' => send(rt, state, line, memory, wire),
-        b'R' => receive(rt, state, line, memory, wire),
-        b'K' => check(rt, state),
-        b'O' => open(rt, state, line, memory),
-        b'B' => packet(rt, state, line, memory, wire),
-        b'F' => finish(rt, state),
-        b'A' => abandon(rt, state),
-        _ => Ok(state),
-    }
-}
-
-// Does what a line says: changes the key or a buffer, or makes a call and prints digests of memory and wire after it.
-fn run_line(
-    rt: &impl Print,
-    state: State,
-    line: &[u8],
-    memory: &mut [u8],
-    wire: &mut [u8],
-) -> io::Result<State> {
-    if line.len() == 0 {
-        return Ok(state);
-    }
-    match line[0] {
-        b'N' => return Ok(fresh_state()),
-        b'Z' => return Ok(clear_seal(state)),
-        b'Y' => return Ok(restore_seal(state)),
-        b'M' => buffers::fill_pattern(memory, number(line, 0)),
-        b'W' => buffers::fill_pattern(wire, number(line, 0)),
-        b'm' => buffers::change_bytes(memory, line),
-        b'w' => buffers::change_bytes(wire, line),
-        _ => {
-            let after = make_call(rt, state, line, memory, wire)?;
-            lines::print_number(rt, lines::digest(memory))?;
-            lines::print_number(rt, lines::digest(wire))?;
-            lines::print_text(rt, b"\n")?;
-            return Ok(after);
+impl fmt::Display for Printed {
+    fn fmt<W: fmt::Write>(&self, f: &mut fmt::Formatter<W>) -> fmt::Result {
+        match *self {
+            Printed::NoCall => Ok(()),
+            Printed::Answer(letter, answer) => write!(f, "{letter} {answer}"),
+            Printed::Transfer {
+                letter,
+                answer,
+                taken,
+                written,
+            } => write!(f, "{letter} {answer} {taken} {written}"),
+            Printed::Check(answer, error) => write!(
+                f,
+                "K {answer} {} {} {} {} {}",
+                error.error_type, error.actual, error.expected, error.offset, error.differing
+            ),
         }
     }
-    Ok(state)
 }
 
-// Does what all lines of a case file say, in order.
-pub(crate) fn run_lines(
-    rt: &impl Print,
-    text: &[u8],
-    memory: &mut [u8],
-    wire: &mut [u8],
-) -> io::Result<()> {
-    let mut state = fresh_state();
-    let mut at: usize = 0;
-    while at < text.len() {
-        let end = lines::line_end(text, at);
-        state = run_line(rt, state, &text[at..end], memory, wire)?;
-        at = lines::next_line(text, end);
+// The key and the session that the next call takes, and the buffers that it works on.
+#[derive(Drop)]
+struct Replay {
+    key: CKey,
+    session: CSession,
+    memory: [u8; BUFFER_SIZE],
+    wire: [u8; BUFFER_SIZE],
+}
+
+// Returns a session that is none. Open refuses a fresh key, and returns such a session.
+fn no_session() -> CSession {
+    capi::garoalva_open(capi::garoalva_fresh(), b"", 0, 0).session
+}
+
+impl Replay {
+    fn new() -> Self {
+        Replay {
+            key: capi::garoalva_fresh(),
+            session: no_session(),
+            memory: [0; BUFFER_SIZE],
+            wire: [0; BUFFER_SIZE],
+        }
+    }
+
+    // Takes a fresh key, and no session.
+    fn start_anew(&mut self) {
+        self.key = capi::garoalva_fresh();
+        self.session = no_session();
+    }
+
+    // Gives the key the seal of a fresh one. After an accepted open, it is then a copy of the key that was passed to
+    // open.
+    fn restore_seal(&mut self) {
+        let fresh = capi::garoalva_fresh();
+        self.key.seal = fresh.seal;
+    }
+
+    fn configure(&mut self, fields: &mut Fields<'_>) -> Printed {
+        let m = fields.length(BUFFER_SIZE);
+        let configuration = settings::read_configuration(fields);
+        let c = capi::garoalva_configure(self.key, &self.memory[..m], configuration);
+        self.key = c.key;
+        Printed::Answer('C', c.answer)
+    }
+
+    fn send(&mut self, fields: &mut Fields<'_>) -> Printed {
+        let m = fields.length(BUFFER_SIZE);
+        let w = fields.length(BUFFER_SIZE);
+        let offset = fields.number();
+        let data_length = fields.number();
+        let key = self.key;
+        let wire = &mut self.wire[..];
+        let t = capi::garoalva_send(key, &self.memory[..m], &mut wire[..w], offset, data_length);
+        self.key = t.key;
+        Printed::Transfer {
+            letter: 'S',
+            answer: t.answer,
+            taken: t.taken,
+            written: t.written,
+        }
+    }
+
+    fn receive(&mut self, fields: &mut Fields<'_>) -> Printed {
+        let m = fields.length(BUFFER_SIZE);
+        let w = fields.length(BUFFER_SIZE);
+        let offset = fields.number();
+        let data_length = fields.number();
+        let key = self.key;
+        let memory = &mut self.memory[..];
+        let t = capi::garoalva_receive(key, &mut memory[..m], &self.wire[..w], offset, data_length);
+        self.key = t.key;
+        Printed::Transfer {
+            letter: 'R',
+            answer: t.answer,
+            taken: t.taken,
+            written: t.written,
+        }
+    }
+
+    fn check(&mut self) -> Printed {
+        let c = capi::garoalva_check(self.key);
+        self.key = c.key;
+        Printed::Check(c.answer, c.error)
+    }
+
+    // A refused open leaves the key and the session as they are.
+    fn open(&mut self, fields: &mut Fields<'_>) -> Printed {
+        let m = fields.length(BUFFER_SIZE);
+        let offset = fields.number();
+        let data_length = fields.number();
+        let o = capi::garoalva_open(self.key, &self.memory[..m], offset, data_length);
+        if o.answer == 0 {
+            self.key = o.key;
+            self.session = o.session;
+        }
+        Printed::Answer('O', o.answer)
+    }
+
+    fn packet(&mut self, fields: &mut Fields<'_>) -> Printed {
+        let m = fields.length(BUFFER_SIZE);
+        let from = fields.length(BUFFER_SIZE);
+        let end = from + fields.length(BUFFER_SIZE - from);
+        let session = self.session;
+        let wire = &self.wire[..];
+        let memory = &mut self.memory[..];
+        let p = capi::garoalva_packet(session, &mut memory[..m], &wire[from..end]);
+        self.session = p.session;
+        Printed::Transfer {
+            letter: 'B',
+            answer: p.answer,
+            taken: p.taken,
+            written: p.written,
+        }
+    }
+
+    // A refused finish leaves the key and the session as they are.
+    fn finish(&mut self) -> Printed {
+        let f = capi::garoalva_finish(self.session);
+        if f.answer == 0 {
+            self.key = f.key;
+            self.session = f.session;
+        }
+        Printed::Answer('F', f.answer)
+    }
+
+    // A refused abandon leaves the key and the session as they are.
+    fn abandon(&mut self) -> Printed {
+        let a = capi::garoalva_abandon(self.session);
+        if a.answer == 0 {
+            self.key = a.key;
+            self.session = no_session();
+        }
+        Printed::Answer('A', a.answer)
+    }
+
+    // Makes the call that a letter names, and returns what is printed of it.
+    fn make_call(&mut self, letter: u8, fields: &mut Fields<'_>) -> Printed {
+        match letter {
+            b'C' => self.configure(fields),
+            b'S' => self.send(fields),
+            b'R' => self.receive(fields),
+            b'K' => self.check(),
+            b'O' => self.open(fields),
+            b'B' => self.packet(fields),
+            b'F' => self.finish(),
+            b'A' => self.abandon(),
+            _ => Printed::NoCall,
+        }
+    }
+
+    // Does what a line says: changes the key or a buffer, or makes a call and returns what is printed of it. An enum of
+    // the letters would need the same two lists of them, and a third.
+    fn run_line(&mut self, line: &[u8]) -> Option<Printed> {
+        let letter = *line.first()?;
+        let fields = &mut Fields::after_letter(line);
+        match letter {
+            b'N' => self.start_anew(),
+            b'Z' => self.key.seal = 0,
+            b'Y' => self.restore_seal(),
+            b'M' => fill_pattern(&mut self.memory, fields.low()),
+            b'W' => fill_pattern(&mut self.wire, fields.low()),
+            b'm' => change_bytes(&mut self.memory, fields),
+            b'w' => change_bytes(&mut self.wire, fields),
+            _ => return Some(self.make_call(letter, fields)),
+        }
+        None
+    }
+}
+
+// Does what all lines of a case file say, in order. After each call it prints what the call returned, and digests of
+// memory and wire.
+pub(crate) fn run_lines(rt: &impl Print, text: &[u8]) -> io::Result<()> {
+    let mut replay = Replay::new();
+    for line in text.split(|byte| *byte == b'\n') {
+        if let Some(printed) = replay.run_line(line) {
+            println!(rt;
+                "{printed} {} {}",
+                digest(&replay.memory),
+                digest(&replay.wire)
+            )?;
+        }
     }
     Ok(())
 }

@@ -1,16 +1,21 @@
 -- The error slot (01, "Error slot"; 02, request 6).
 --
+--   Slot                                              an error, or none
 --   guard_error, reference_error, application_error    01's error types
 --   error_type tag                                   the error type of a wrong tag
 --   no_error                                         the numbers of an empty slot
 --   error_numbers slot                               the numbers that check returns for a slot
 --   keep old new                                    a slot keeps its first error
-use Rattle.std.specs.Prelude.{ℕ}
+use Rattle.std.specs.Prelude.{ℕ, Option, Some, None}
+use Rattle.std.specs.Option.{option_or}
 use Rattle.field.specs.declared.Tag.{Tag}
 use Rattle.field.specs.declared.Tag.TheVariants.{Guard, Application, Reference}
-use Rattle.slot.specs.declared.Slot.{Slot}
-use Rattle.slot.specs.declared.Slot.TheVariants.{Empty, Holding}
+use Rattle.slot.specs.declared.Error.{Error}
 use Rattle.slot.specs.declared.ErrorNumbers.{ErrorNumbers}
+
+-- A slot holds an error or none.
+abbrev pub Slot : Type 0
+Slot = Option Error
 
 -- 01's error types, which don't follow the order of the tags in the field.
 abbrev pub guard_error : ℕ
@@ -35,8 +40,8 @@ no_error = record { error_type = 0; actual = 0; expected = 0; offset = 0; differ
 -- The numbers that check returns for a slot: actual is what the rule computes, expected what was found, differing the
 -- mask of the reported tag's checked bytes in which they differ.
 unfoldable pub error_numbers : (slot : Slot) → ErrorNumbers
-error_numbers Empty = no_error
-error_numbers (Holding e) = record {
+error_numbers None = no_error
+error_numbers (Some e) = record {
   error_type = error_type e.mismatch.tag;
   actual = e.mismatch.actual;
   expected = e.mismatch.expected;
@@ -46,5 +51,4 @@ error_numbers (Holding e) = record {
 
 -- A slot keeps its first error.
 abbrev pub keep : (old new : Slot) → Slot
-keep Empty new = new
-keep (Holding e) new = Holding e
+keep old new = option_or old new

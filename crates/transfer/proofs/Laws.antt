@@ -1,5 +1,6 @@
 -- These laws lead from an accepted transfer to the engine: they state the lengths of its streams and the result of
 -- feeding the whole input stream.
+use Rattle.std.specs.Prelude.{None, Ok}
 use mathlib.Core.Path.{◌≡◌, refl, sym, ap, ◌∙◌}
 use mathlib.Core.Bool.{Bool, true, false}
 use mathlib.Core.List.{List}
@@ -16,15 +17,10 @@ use Rattle.layout.specs.Inner.Cursors.{Walked}
 use Rattle.layout.proofs.PieceLaws.{placed_more}
 use Rattle.field.specs.declared.Domain.{Domain}
 use Rattle.field.specs.Domains.{signed}
-use Rattle.slot.specs.declared.Slot.{Slot}
-use Rattle.slot.specs.declared.Slot.TheVariants.{Empty}
+use Rattle.slot.specs.Slots.{Slot, keep}
 use Rattle.key.specs.Streams.{stream_length}
 use Rattle.key.specs.Inner.Admission.{Measured}
 use Rattle.key.specs.declared.Key.{Key}
-use Rattle.key.specs.declared.Refusal.{Refusal}
-use Rattle.key.specs.declared.Outcome.{Outcome}
-use Rattle.key.specs.declared.Outcome.TheVariants.{Done, Refused}
-use Rattle.slot.specs.Slots.{keep}
 use Rattle.key.specs.Keys.{with_slot, KeyValid}
 use Rattle.key.specs.Admitting.{transfer_answer}
 use Rattle.key.specs.Inner.Admission.{Blocks, Admitted}
@@ -39,9 +35,8 @@ use Rattle.engine.specs.Inner.Parts.{InStep, Feedable, Feeds}
 use Rattle.engine.proofs.Settling.{bytes_take}
 use Rattle.engine.proofs.Feeding.{finished_fed}
 use Rattle.engine.proofs.FeedLaws.{room_at, begun_in_step, fed-after}
-use Rattle.transfer.specs.declared.TransferResult.{TransferResult}
 use Rattle.transfer.specs.Rules.{receive_rule, output_of, error_in}
-use Rattle.transfer.specs.Transferring.{wire_stream, transfer_result_by, answer_of, receive_result, memory_after_receive}
+use Rattle.transfer.specs.Transferring.{wire_stream, TransferResult, transfer_result_by, answer_of, receive_result, memory_after_receive}
 
 -- Two domains agree on a data length if answer 1 refuses neither, the data is whole blocks of each signed one, and two
 -- signed ones have one block size. An accepted transfer implies this of its domains.
@@ -136,19 +131,19 @@ ready r data_length g =
 
 -- Feeding a whole input stream emits the transfer rule's output stream, and finds the transfer rule's first error.
 pub record Whole (r : Rule) (stream : List ℕ) (data_length output : ℕ) : Type 0 where
-  pub in_step : InStep r (begun r Empty)
+  pub in_step : InStep r (begun r None)
   pub some : 0 < in_unit r
-  pub shown : emitted r (begun r Empty) stream ≡ output_of r stream data_length
-  pub size : length (emitted r (begun r Empty) stream) ≡ output
-  pub error : (fed r (begun r Empty) stream).slot ≡ error_in r stream data_length
+  pub shown : emitted r (begun r None) stream ≡ output_of r stream data_length
+  pub size : length (emitted r (begun r None) stream) ≡ output
+  pub error : (fed r (begun r None) stream).slot ≡ error_in r stream data_length
 
 -- If a rule is ready, feeding it a whole input stream produces the transfer rule's output and first error.
 pub whole : (r : Rule) (data_length input output : ℕ) → Ready r data_length input output → (stream : List ℕ) → Bytes stream → length stream ≡ input → Whole r stream data_length output
 whole r data_length input output R stream b e =
-    let s = begun_in_step r Empty R.matched in
+    let s = begun_in_step r None R.matched in
     let n : 0 < in_unit r = omega (arith, R.matched.some) in
-    let f = finished_fed r R.matched Empty stream (data_length / in_block r) b (e ∙ R.input) in
-    let w = (fed-after r (begun r Empty) s n stream).2 in
+    let f = finished_fed r R.matched None stream (data_length / in_block r) b (e ∙ R.input) in
+    let w = (fed-after r (begun r None) s n stream).2 in
     record {
       in_step = s;
       some = n;
@@ -166,8 +161,8 @@ pub record Accepted (k : Key) (n offset data_length w : ℕ) : Type 0 where
   pub agree : Agree k.signature.memory k.signature.wire data_length
   pub measured : Measured k.signature.memory data_length × Measured k.signature.wire data_length
 
--- If the answer of a transfer on a valid key is Done, the facts of `Accepted` hold.
-pub accept : (k : Key) (n offset data_length w : ℕ) → KeyValid k → transfer_answer k n offset data_length w ≡ Done → Accepted k n offset data_length w
+-- If the answer of a transfer on a valid key is Ok, the facts of `Accepted` hold.
+pub accept : (k : Key) (n offset data_length w : ℕ) → KeyValid k → transfer_answer k n offset data_length w ≡ Ok tt → Accepted k n offset data_length w
 accept k n offset data_length w c e =
     let t = transfer_admitted k n offset data_length w e in
     let a = admitted k n offset data_length c t.0 in
@@ -184,7 +179,7 @@ walkable {k} {n} {offset} {data_length} a = (placed_more {n = n} (omega (arith, 
 
 -- ---- receive
 
-module _ (k : Key) (memory wire : List ℕ) (offset data_length : ℕ) (c : KeyValid k) (e : answer_of k memory wire offset data_length ≡ Done) (b : Bytes wire) where
+module _ (k : Key) (memory wire : List ℕ) (offset data_length : ℕ) (c : KeyValid k) (e : answer_of k memory wire offset data_length ≡ Ok tt) (b : Bytes wire) where
   receive_accepted : Accepted k (length memory) offset data_length (length wire)
   receive_accepted = accept k (length memory) offset data_length (length wire) c e
 
@@ -196,7 +191,7 @@ module _ (k : Key) (memory wire : List ℕ) (offset data_length : ℕ) (c : KeyV
 
   -- Feeding the wire stream of an accepted receive meets the precondition of `feed`.
   pub receive_asks : (at : Cursor) → Walked k.layout offset at
-      → Feedable (receive_rule k.signature) (begun (receive_rule k.signature) Empty) k.layout at (length memory) (wire_stream k wire data_length)
+      → Feedable (receive_rule k.signature) (begun (receive_rule k.signature) None) k.layout at (length memory) (wire_stream k wire data_length)
   receive_asks at w =
       let a = receive_accepted.admitted in
       let z = zero-mul (out_unit (receive_rule k.signature)) in
@@ -208,9 +203,9 @@ module _ (k : Key) (memory wire : List ℕ) (offset data_length : ℕ) (c : KeyV
 
   -- After the wire stream is fed, receive returns `receive_result` and memory is `memory_after_receive`.
   pub receive_gives : (at : Cursor) → Walked k.layout offset at → (f : FeedResult) (after : List ℕ)
-      → Feeds (receive_rule k.signature) (begun (receive_rule k.signature) Empty) k.layout at memory (wire_stream k wire data_length) f after
+      → Feeds (receive_rule k.signature) (begun (receive_rule k.signature) None) k.layout at memory (wire_stream k wire data_length) f after
       → (◌≡◌ {A = TransferResult} (record {
-        outcome = Done;
+        outcome = Ok tt;
         taken = stream_length k.signature.wire data_length;
         written = stream_length k.signature.memory data_length;
         key = with_slot k (keep k.slot f.progress.slot);
@@ -220,12 +215,4 @@ module _ (k : Key) (memory wire : List ℕ) (offset data_length : ℕ) (c : KeyV
   unfolding receive_result memory_after_receive
   receive_gives at w f after g =
       let s : f.progress.slot ≡ error_in (receive_rule k.signature) (wire_stream k wire data_length) data_length = ap (λ (p : Progress). p.slot) g.progress ∙ receive_whole.error in
-      rw e (ap (λ (s : Slot). transfer_result_by Done k (stream_length k.signature.wire data_length) (stream_length k.signature.memory data_length) s) s, g.stored.memory ∙ rw (w.on, receive_whole.shown))
-
--- A refused receive returns two zeros and the key as it was, and leaves memory as it was.
-pub receive_refused : (k : Key) (memory wire : List ℕ) (offset data_length : ℕ) (o : Outcome) (r : Refusal) → o ≡ answer_of k memory wire offset data_length → o ≡ Refused r
-    → (◌≡◌ {A = TransferResult} (record { outcome = o; taken = 0; written = 0; key = k }) (receive_result k memory wire offset data_length)
-    × (memory ≡ memory_after_receive k memory wire offset data_length)
-    )
-unfolding receive_result memory_after_receive
-receive_refused k memory wire offset data_length o r a e = rw (← a, e) (refl, refl)
+      rw e (ap (λ (s : Slot). transfer_result_by (Ok tt) k (stream_length k.signature.wire data_length) (stream_length k.signature.memory data_length) s) s, g.stored.memory ∙ rw (w.on, receive_whole.shown))

@@ -1,5 +1,6 @@
 -- These laws are about send: it feeds the memory stream piece by piece, and stores the output in the wire's first
 -- bytes.
+use Rattle.std.specs.Prelude.{None, Ok}
 use mathlib.Core.Path.{◌≡◌, refl, sym, ap, ◌∙◌}
 use mathlib.Core.Bool.{Bool, true, false}
 use mathlib.Core.List.{List, [], ◌∷◌, ◌++◌}
@@ -20,16 +21,11 @@ use Rattle.guard.specs.Guards.{Bytes}
 use Rattle.field.specs.declared.Domain.{Domain}
 use Rattle.field.specs.Domains.{signed}
 use Rattle.key.specs.declared.Key.{Key}
-use Rattle.key.specs.declared.Refusal.{Refusal}
-use Rattle.key.specs.declared.Outcome.{Outcome}
-use Rattle.key.specs.declared.Outcome.TheVariants.{Done, Refused}
-use Rattle.slot.specs.Slots.{keep}
+use Rattle.slot.specs.Slots.{keep, Slot}
 use Rattle.key.specs.Keys.{with_slot, KeyValid}
 use Rattle.key.specs.Streams.{stream_length}
 use Rattle.key.specs.Inner.Admission.{Sized}
 use Rattle.key.proofs.Laws.{fields_short, data_in_stream}
-use Rattle.slot.specs.declared.Slot.{Slot}
-use Rattle.slot.specs.declared.Slot.TheVariants.{Empty}
 use Rattle.engine.specs.declared.Rule.{Rule}
 use Rattle.engine.specs.declared.Progress.{Progress}
 use Rattle.engine.specs.Streams.{out_unit}
@@ -37,9 +33,8 @@ use Rattle.engine.specs.Feeding.{begun}
 use Rattle.engine.specs.declared.FeedResult.{FeedResult}
 use Rattle.engine.specs.Inner.Parts.{Feedable, Feeds}
 use Rattle.engine.proofs.FeedLaws.{room_at, going_start, going_turn, going_end, part_feedable}
-use Rattle.transfer.specs.declared.TransferResult.{TransferResult}
 use Rattle.transfer.specs.Rules.{send_rule, output_of}
-use Rattle.transfer.specs.Transferring.{memory_stream, transfer_result_by, answer_of, send_result, wire_after_send}
+use Rattle.transfer.specs.Transferring.{memory_stream, TransferResult, transfer_result_by, answer_of, send_result, wire_after_send}
 use Rattle.transfer.proofs.Laws.{Accepted, accept, Whole, whole, ready}
 use Rattle.transfer.specs.Inner.SendStream.{prefix_layout, bytes_at, StreamReady, StreamPartly, StreamSent}
 
@@ -75,14 +70,14 @@ run_part memory ps n d left k a b =
 module _ (r : Rule) (l : Layout) (memory : List ℕ) (offset n : ℕ) (to : Layout) (before : List ℕ) (D : StreamReady r l memory offset n to (length before))
     (first : Cursor) (F : Walked to 0 first) (start : Cursor) (S : Walked l offset start) where
   -- The invariant of the loop in `send_stream` holds before any byte is fed.
-  pub stream_start : (q : Progress) → q ≡ begun r Empty → StreamPartly r l memory start n to first before (record { progress = q; cursor = first }) start 0 before
+  pub stream_start : (q : Progress) → q ≡ begun r None → StreamPartly r l memory start n to first before (record { progress = q; cursor = first }) start 0 before
   stream_start q e =
       let z = zero-mul (out_unit r) in
       record {
         most = omega arith;
         going =
             rw e
-            (going_start r (begun r Empty) to first before (bytes_at memory (ahead l start) n) (length before) refl
+            (going_start r (begun r None) to first before (bytes_at memory (ahead l start) n) (length before) refl
             (record { in_step = D.in_step; begun = D.some; room = room_at _ _ _ 0 first _ _ D.target F (omega arith) (rw S.on (omega (arith, D.room))) D.small }));
         stands = S.stands;
         on = refl;
@@ -110,7 +105,7 @@ module _ (r : Rule) (l : Layout) (memory : List ℕ) (offset n : ℕ) (to : Layo
 
       -- Feeding the next k bytes of the piece meets the precondition of `feed`.
       pub stream_ready : Feedable r q.progress to q.cursor (length mid) (take k run)
-      stream_ready = rw same (part_feedable r (begun r Empty) to first before (bytes_at memory (ahead l start) n) q mid (drop d (bytes_at memory (ahead l start) n)) g.going k)
+      stream_ready = rw same (part_feedable r (begun r None) to first before (bytes_at memory (ahead l start) n) q mid (drop d (bytes_at memory (ahead l start) n)) g.going k)
 
       -- A turn of the loop keeps the invariant.
       pub stream_turn : (q' : FeedResult) (mid' : List ℕ) → Feeds r q.progress to q.cursor mid (take k run) q' mid' → StreamPartly r l memory start n to first before q' (forward c' k) (d + k) mid'
@@ -118,7 +113,7 @@ module _ (r : Rule) (l : Layout) (memory : List ℕ) (offset n : ℕ) (to : Layo
         most = stream_some.2;
         going =
             rw (← drop-drop k d (bytes_at memory (ahead l start) n))
-            (going_turn r (begun r Empty) to first before (bytes_at memory (ahead l start) n) q mid (drop d (bytes_at memory (ahead l start) n)) g.going k q' mid' (rw same at f));
+            (going_turn r (begun r None) to first before (bytes_at memory (ahead l start) n) q mid (drop d (bytes_at memory (ahead l start) n)) g.going k q' mid' (rw same at f));
         stands = forward_stands l c' R.stands k stream_some.1;
         on = forward-ahead l c' R.stands k stream_some.1 ∙ ap (drop k) (R.same ∙ g.on) ∙ drop-drop k d (ahead l start);
       }
@@ -128,7 +123,7 @@ module _ (r : Rule) (l : Layout) (memory : List ℕ) (offset n : ℕ) (to : Layo
   stream_sent q c d after e g =
       let all : length (drop d (bytes_at memory (ahead l start) n)) ≡ 0 =
       length-drop d (bytes_at memory (ahead l start) n) ∙ rw (length-gathered memory (take n (ahead l start)), length-take n (ahead l start)) (omega (arith, e)) in
-      let f = rw S.on at (going_end r (begun r Empty) to first before (bytes_at memory (ahead l start) n) q after (drop d (bytes_at memory (ahead l start) n)) g.going all) in
+      let f = rw S.on at (going_end r (begun r None) to first before (bytes_at memory (ahead l start) n) q after (drop d (bytes_at memory (ahead l start) n)) g.going all) in
       record { error = ap (λ (p : Progress). p.slot) f.progress; wire = f.stored.memory ∙ rw F.on }
 
 -- ---- an accepted send
@@ -149,7 +144,7 @@ stream_double d n s = go (signed d) refl
     go true e = rw e (omega (arith, fields_short n d.block_size (s e)))
     go false e = rw e (omega arith)
 
-module _ (k : Key) (memory wire : List ℕ) (offset data_length : ℕ) (c : KeyValid k) (e : answer_of k memory wire offset data_length ≡ Done) (b : Bytes memory) where
+module _ (k : Key) (memory wire : List ℕ) (offset data_length : ℕ) (c : KeyValid k) (e : answer_of k memory wire offset data_length ≡ Ok tt) (b : Bytes memory) where
   send_accepted : Accepted k (length memory) offset data_length (length wire)
   send_accepted = accept k (length memory) offset data_length (length wire) c e
 
@@ -191,7 +186,7 @@ module _ (k : Key) (memory wire : List ℕ) (offset data_length : ℕ) (c : KeyV
   pub send_gives : (error : Slot) (after : List ℕ)
       → StreamSent (send_rule k.signature) k.layout memory offset (stream_length k.signature.memory data_length) (prefix_layout (stream_length k.signature.wire data_length)) wire error after
       → (◌≡◌ {A = TransferResult} (record {
-        outcome = Done;
+        outcome = Ok tt;
         taken = stream_length k.signature.memory data_length;
         written = stream_length k.signature.wire data_length;
         key = with_slot k (keep k.slot error);
@@ -205,12 +200,4 @@ module _ (k : Key) (memory wire : List ℕ) (offset data_length : ℕ) (c : KeyV
       let w : after ≡ out ++ drop (stream_length k.signature.wire data_length) wire =
       d.wire ∙ rw (send_whole.shown, one_places (prefix_layout (stream_length k.signature.wire data_length)) _ _ refl refl refl)
       (scattered_from wire out 0 (stream_length k.signature.wire data_length) (omega (arith, n)) ∙ sets-eq out wire 0 (omega (arith, n, send_accepted.wire)) ∙ rw (zero-add (length out), n)) in
-      rw e (ap (λ (s : Slot). transfer_result_by Done k (stream_length k.signature.memory data_length) (stream_length k.signature.wire data_length) s) (d.error ∙ send_whole.error), w)
-
--- A refused send returns two zeros and the key as it was, and leaves the wire as it was.
-pub send_refused : (k : Key) (memory wire : List ℕ) (offset data_length : ℕ) (o : Outcome) (r : Refusal) → o ≡ answer_of k memory wire offset data_length → o ≡ Refused r
-    → (◌≡◌ {A = TransferResult} (record { outcome = o; taken = 0; written = 0; key = k }) (send_result k memory wire offset data_length)
-    × (wire ≡ wire_after_send k memory wire offset data_length)
-    )
-unfolding send_result wire_after_send
-send_refused k memory wire offset data_length o r a e = rw (← a, e) (refl, refl)
+      rw e (ap (λ (s : Slot). transfer_result_by (Ok tt) k (stream_length k.signature.memory data_length) (stream_length k.signature.wire data_length) s) (d.error ∙ send_whole.error), w)

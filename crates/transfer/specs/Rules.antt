@@ -7,7 +7,7 @@
 use Rattle.std.specs.Prelude.{List, ℕ, ◌/◌}
 use Rattle.field.specs.declared.Domain.{Domain}
 use Rattle.field.specs.Output.{copy_mask}
-use Rattle.slot.specs.declared.Slot.{Slot}
+use Rattle.slot.specs.Slots.{Slot}
 use Rattle.key.specs.declared.Signature.{Signature}
 use Rattle.engine.specs.declared.Rule.{Rule}
 use Rattle.engine.specs.Streams.{in_block, out_block}

@@ -1,12 +1,12 @@
-// Send: moves a stream from memory to the wire.
+// Send: moves a stream from memory to the wire. Receive is no twin of it: here the input is in pieces, there it is whole.
 ghost use Rattle.std.specs.Prelude.{◌≡◌, ◌<◌, ◌^◌, length};
 ghost use Rattle.key.specs.Keys.{KeyValid};
 ghost use Rattle.transfer.specs.Transferring as transferring;
 ghost use Rattle.transfer.specs.Inner.SendStream.{prefix_layout, StreamReady, StreamSent};
 
-use crate::{TransferResult, rules};
+use crate::{Totals, rules};
 use engine::{FeedResult, Rule};
-use key::{Key, Outcome};
+use key::{Key, Refusal};
 use layout::{ENTRIES_MAX, Entry, Layout, LayoutOffset, MemoryOffset};
 use slot::Slot;
 
@@ -28,7 +28,7 @@ fn prefix_layout(n: u64) -> Layout
 }
 
 // Feeds n layout bytes from the offset on, piece by piece, and stores the output in the wire's first bytes. Returns the
-// first error.
+// first error. The loop counts bytes and no index: how many it feeds in a turn, the cursor tells.
 fn send_stream(
     rule: Rule,
     from: Layout,
@@ -41,7 +41,7 @@ fn send_stream(
     requires { StreamReady rule from memory.now offset.0 n to (length wire.old) }
     ensures { StreamSent rule from memory.now offset.0 n to wire.old result wire.new }
 {
-    let begun = engine::begin(rule, Slot::Empty);
+    let begun = rule.begin(None);
     let cursor = layout::walk(to, LayoutOffset::new(0));
     let mut p = FeedResult {
         progress: begun,
@@ -52,8 +52,8 @@ fn send_stream(
     while done < n {
         c = layout::next_piece_if_spent(from, c);
         let piece = layout::rest_of_piece(memory, c);
-        let m = arith::min(piece.len() as u64, n - done) as usize;
-        p = engine::feed(rule, p.progress, to, wire, p.cursor, &piece[0..m]);
+        let m = (piece.len() as u64).min(n - done) as usize;
+        p = rule.feed(p.progress, to, wire, p.cursor, &piece[0..m]);
         c = layout::forward(c, m as u64);
         done += m as u64;
     }
@@ -61,22 +61,21 @@ fn send_stream(
     progress.slot
 }
 
-// Checks the stream in memory and writes it to the wire.
+// Checks the stream in memory, writes it to the wire, and records its first error in the key.
+#[tactic(auto, unfolding(crate::specs::Transferring::send_result, crate::specs::Transferring::wire_after_send))]
 pub fn send(
-    key: Key,
+    key: &mut Key,
     memory: &[u8],
     wire: &mut [u8],
     offset: LayoutOffset,
     data_length: u64,
-) -> TransferResult
-    requires { KeyValid key }
-    ensures value { result ≡ transferring.send_result key memory.now wire.old offset.0 data_length }
-    ensures wire_after { wire.new ≡ transferring.wire_after_send key memory.now wire.old offset.0 data_length }
+) -> Result<Totals, Refusal>
+    requires { KeyValid key.old }
+    ensures totals { result ≡ transferring.totals_of (transferring.send_result key.old memory.now wire.old offset.0 data_length) }
+    ensures key_after { key.new ≡ (transferring.send_result key.old memory.now wire.old offset.0 data_length).key }
+    ensures wire_after { wire.new ≡ transferring.wire_after_send key.old memory.now wire.old offset.0 data_length }
 {
-    let outcome = key::admit_transfer(key, memory, wire, offset, data_length);
-    let Outcome::Done = outcome else {
-        return crate::refused_result(outcome, key);
-    };
+    key.admit_transfer(memory, wire, offset, data_length)?;
     let signature = key.signature;
     let from = key.layout;
     let rule = rules::send_rule(signature);
@@ -91,10 +90,6 @@ pub fn send(
         prefix_layout(written),
         wire,
     );
-    TransferResult {
-        outcome: Outcome::Done,
-        taken,
-        written,
-        key: key::keep_error(key, slot),
-    }
+    key.keep_error(slot);
+    Ok(Totals { taken, written })
 }

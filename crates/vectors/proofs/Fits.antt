@@ -1,26 +1,16 @@
--- A sound layout may be walked, and its bytes may be moved.
-use mathlib.Core.Path.{◌≡◌, sym, ◌∙◌}
+-- What holds of a layout that is sound over a memory of 1,044 bytes: its total may be taken, and it lies in each memory
+-- that is as long.
+use mathlib.Core.Path.{◌≡◌}
 use Prim.Native.Nat.{ℕ, ◌*◌, ◌≤◌}
 use Rattle.layout.specs.declared.Layout.{Layout}
-use Rattle.layout.specs.declared.layout_rules.Verdict.{Verdict}
-use Rattle.layout.specs.declared.layout_rules.Verdict.TheVariants.{Sound}
-use Rattle.layout.specs.Pieces.{total}
+use Rattle.std.specs.Prelude.{Ok}
 use Rattle.layout.specs.Answers.{verdict_on}
+use Rattle.layout.specs.Moves.{Placed}
 use Rattle.layout.proofs.AnswerLaws.{sound_shaped, sound_placed}
 use Rattle.layout.proofs.PieceLaws.{placed_more}
-use Rattle.vectors.specs.Needed.{Located, Moved}
-use native.Mathlib.Omega.{arith}
 
--- The verdict was found, and it is that of a sound layout.
-module _ (l : Layout) (v : Verdict) (found : v ≡ verdict_on l 1044) (good : v ≡ Sound) where
-  sound : verdict_on l 1044 ≡ Sound
-  sound = sym found ∙ good
+pub few : (l : Layout) → verdict_on l 1044 ≡ Ok tt → (l.used ≤ 16) × (l.used * l.repeat ≤ 1024)
+few l sound = let s = sound_shaped l 1044 sound in (s.used, s.few)
 
-  pub few : (l.used ≤ 16) × (l.used * l.repeat ≤ 1024)
-  few = let s = sound_shaped l 1044 sound in (s.used, s.few)
-
-  pub located : (n : ℕ) → n ≡ total l → Located l n
-  located n e = record { placed = placed_more {n = 1044} (omega arith) (sound_placed l 1044 sound); all = e }
-
-  pub moved : (n : ℕ) → n ≡ total l → n ≡ 1040 → Moved l
-  moved n e h = record { placed = sound_placed l 1044 sound; all = sym h ∙ e }
+pub placed : (l : Layout) (n : ℕ) → 1044 ≤ n → verdict_on l 1044 ≡ Ok tt → Placed l n
+placed l n h sound = placed_more h (sound_placed l 1044 sound)

@@ -1,8 +1,10 @@
 // Prints answers 5, 6 and 7 for layouts, and where layout bytes lie.
-ghost use Rattle.vectors.specs.Needed.{Located};
+ghost use Rattle.std.specs.Prelude.{◌<◌};
 
-use crate::{J_MEMORY, lines};
-use layout::{ENTRIES_MAX, Entry, Layout, LayoutOffset, MemoryOffset, Verdict};
+use crate::J_MEMORY;
+use crate::sound::SoundLayout;
+use key::Refusal;
+use layout::{ENTRIES_MAX, Entry, Layout, MemoryOffset};
 use std::io;
 
 // Where the second entry of J's layout starts, and where that of L's does.
@@ -52,93 +54,77 @@ fn make_single(start: u64, count: u32) -> Layout {
 }
 
 // Returns 01's number for the verdict on a layout.
-fn answer_number(l: Layout, memory_length: u64) -> u64 {
+fn answer_number(l: Layout, memory_length: u64) -> u32 {
     match layout::judge(l, memory_length) {
-        Verdict::Sound => 0,
-        Verdict::Malformed => 5,
-        Verdict::Outside => 6,
-        Verdict::Overlapping => 7,
+        Ok(()) => 0,
+        Err(error) => u32::from(Refusal::from(error)),
     }
 }
 
-fn print_answer(rt: &impl Print, label: &[u8], l: Layout, memory_length: u64) -> io::Result<()> {
-    lines::print_text(rt, label)?;
-    lines::print_text(rt, b", memory ")?;
-    lines::print_decimal(rt, memory_length)?;
-    lines::print_decimal_line(rt, b": answer ", answer_number(l, memory_length))
+fn print_answer(rt: &impl Print, label: &str, l: Layout, memory_length: u64) -> io::Result<()> {
+    let answer = answer_number(l, memory_length);
+    println!(rt; "{label}, memory {memory_length}: answer {answer}")
 }
 
 pub(crate) fn print_answers(rt: &impl Print) -> io::Result<()> {
-    print_answer(rt, b"J", make_j(), J_MEMORY)?;
-    print_answer(rt, b"K", make_j(), J_MEMORY - 1)?;
-    print_answer(rt, b"L", make_like_j(L_SECOND_START), J_MEMORY)
+    print_answer(rt, "J", make_j(), J_MEMORY)?;
+    print_answer(rt, "K", make_j(), J_MEMORY - 1)?;
+    print_answer(rt, "L", make_like_j(L_SECOND_START), J_MEMORY)
 }
 
 pub(crate) fn print_malformed(rt: &impl Print) -> io::Result<()> {
-    print_answer(rt, b"used 0", make_alternating(0, 1), J_MEMORY)?;
-    print_answer(rt, b"used 17", make_alternating(17, 1), J_MEMORY)?;
-    print_answer(rt, b"repeat 0", make_alternating(2, 0), J_MEMORY)?;
-    print_answer(rt, b"a count 0", make_single(0, 0), J_MEMORY)?;
-    print_answer(rt, b"2 entries x 513 repeats", make_alternating(2, 513), 8)?;
-    print_answer(rt, b"2 entries x 512 repeats", make_alternating(2, 512), 8)
+    print_answer(rt, "used 0", make_alternating(0, 1), J_MEMORY)?;
+    print_answer(rt, "used 17", make_alternating(17, 1), J_MEMORY)?;
+    print_answer(rt, "repeat 0", make_alternating(2, 0), J_MEMORY)?;
+    print_answer(rt, "a count 0", make_single(0, 0), J_MEMORY)?;
+    print_answer(rt, "2 entries x 513 repeats", make_alternating(2, 513), 8)?;
+    print_answer(rt, "2 entries x 512 repeats", make_alternating(2, 512), 8)
 }
 
 // Prints the answers for pieces at the end of 64 bits, and for two that touch.
 pub(crate) fn print_edges(rt: &impl Print) -> io::Result<()> {
     print_answer(
         rt,
-        b"start 2^64 - 1, count 1",
+        "start 2^64 - 1, count 1",
         make_single(LAST_OFFSET, 1),
         J_MEMORY,
     )?;
     print_answer(
         rt,
-        b"start 2^64 - 1, count 1",
+        "start 2^64 - 1, count 1",
         make_single(LAST_OFFSET, 1),
         LAST_OFFSET,
     )?;
     print_answer(
         rt,
-        b"touching pieces (0, 8, 0), (8, 8, 0)",
+        "touching pieces (0, 8, 0), (8, 8, 0)",
         make_layout(make_entry(0, 8, 0), make_entry(8, 8, 0), 2, 1),
         16,
     )
 }
 
-// Prints where layout byte x lies, or nothing if the layout has no byte x.
-fn print_spot(rt: &impl Print, l: Layout, total: u64, x: u64) -> io::Result<()>
-    requires { Located l total }
+// Prints where layout byte x lies.
+fn print_spot(rt: &impl Print, j: &SoundLayout, x: u64) -> io::Result<()>
+    requires { x < j.now.total }
 {
-    if x < total {
-        let c = layout::walk(l, LayoutOffset::new(x));
-        lines::print_text(rt, b"J, layout byte ")?;
-        lines::print_decimal(rt, x)?;
-        lines::print_text(rt, b": memory byte ")?;
-        lines::print_decimal(rt, c.place.number())?;
-        lines::print_decimal_line(rt, b", bytes left ", c.left)?;
-    }
-    Ok(())
+    let cursor = j.walk(x);
+    let place = cursor.place.number();
+    println!(rt;
+        "J, layout byte {x}: memory byte {place}, bytes left {}",
+        cursor.left
+    )
 }
 
-// Prints where the first and the last byte of some of J's pieces lie.
-fn print_each_spot(rt: &impl Print, l: Layout, total: u64) -> io::Result<()>
-    requires { Located l total }
-{
-    print_spot(rt, l, total, 0)?;
-    print_spot(rt, l, total, 511)?;
-    print_spot(rt, l, total, 512)?;
-    print_spot(rt, l, total, 519)?;
-    print_spot(rt, l, total, 520)?;
-    print_spot(rt, l, total, 1039)
-}
-
+// Prints J's total, and where the first and the last byte of some of J's pieces lie.
 pub(crate) fn print_spots(rt: &impl Print) -> io::Result<()> {
-    let l = make_j();
-    let v = layout::judge(l, J_MEMORY);
-    let Verdict::Sound = v else {
+    let Some(j) = SoundLayout::new(make_j()) else {
         return Ok(());
     };
-    let total = layout::total(l);
-    lines::print_decimal_line(rt, b"J: total ", total)?;
-    print_each_spot(rt, l, total)
+    println!(rt; "J: total {}", j.total)?;
+    for x in [0, 511, 512, 519, 520, 1039] {
+        if x < j.total {
+            print_spot(rt, &j, x)?;
+        }
+    }
+    Ok(())
 }

@@ -5,8 +5,8 @@
 
 mod guards;
 mod layouts;
-mod lines;
 mod moves;
+mod sound;
 
 use std::io;
 

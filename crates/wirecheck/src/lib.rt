@@ -7,11 +7,3 @@ mod check;
 mod setup;
 
 pub use check::check_wire;
-use slot::ErrorNumbers;
-
-// The number of a refusal, or the numbers that check returns.
-#[derive(Clone, Copy)]
-pub enum Answer {
-    Refused(u32),
-    Found(ErrorNumbers),
-}

@@ -11,7 +11,7 @@ fn signature() -> Signature
     ensures { result ≡ checks.signature_a }
 {
     Signature {
-        memory: field::unsigned_domain(),
+        memory: Domain::default(),
         wire: Domain {
             kind: 1,
             block_size: 8,

@@ -11,8 +11,7 @@ use Rattle.guard.specs.Guards.{started, advanced}
 use Rattle.field.specs.declared.Domain.{Domain}
 use Rattle.field.specs.Domains.{block_size_max, seed_ones, signed}
 use Rattle.field.specs.Fields.{field_bytes, field_of}
-use Rattle.slot.specs.declared.Slot.{Slot}
-use Rattle.slot.specs.Slots.{keep}
+use Rattle.slot.specs.Slots.{Slot, keep}
 use Rattle.engine.specs.declared.Rule.{Rule}
 use Rattle.engine.specs.declared.Progress.{Progress}
 use Rattle.engine.specs.Streams.{in_block, in_unit, out_block, input_block}

@@ -1,15 +1,16 @@
-use mathlib.Core.Path.{sym, ◌∙◌}
+use Rattle.std.proofs.Common.{sym, ◌∙◌, length}
+use Rattle.key.specs.Admitting.{open_answer}
+use Rattle.packets.specs.Sessions.{opened_session}
+use Rattle.cstructs.specs.CStructs.{key_from_c}
+use Rattle.cstructs.proofs.Laws.{key_back}
 use Rattle.capi.specs.Calls.{c_open}
-use Rattle.cstructs.proofs.Laws.{key_told}
+use Rattle.capi.proofs.Calls.{opened}
 use Rattle.capi.proofs.session_calls.garoalva_open.Goals as goal
 
-pub open-o-requires : goal.open-o-requires
-open-o-requires c = rw c.key_from_c.ensures (key_told _ (sym c.c_key_valid.ensures ∙ c.if-c_key_valid.true)).key_valid
-
-pub returns-then-c_key_valid : goal.returns-then-c_key_valid
+pub returns-in-Ok : goal.returns-in-Ok
 unfolding c_open
-returns-then-c_key_valid c = rw (c.wide.ensures, c.number.ensures, c.session_opened.ensures, c.key_opened.ensures, c.open-o.ensures, c.new.ensures, c.key_from_c.ensures, sym c.c_key_valid.ensures ∙ c.if-c_key_valid.true)
-
-pub returns : goal.returns
-unfolding c_open
-returns c = rw (c.no_session.ensures, sym c.c_key_valid.ensures ∙ c.if-c_key_valid.false)
+returns-in-Ok c =
+    let a = c.args in
+    rw (c.unsealed.ensures, c.from.ensures, sym c.if-not-is_valid.ensures)
+    (opened a.key (key_from_c a.key) (opened_session (key_from_c a.key) (record { 0 = a.offset }) a.data_length) c.in-Ok.session
+    (open_answer (key_from_c a.key) (length a.memory.now) a.offset a.data_length) (key_back a.key (sym c.if-not-is_valid.ensures)) (c.in-Ok.ensures ∙ rw (c.from-k.ensures, c.new.ensures)))

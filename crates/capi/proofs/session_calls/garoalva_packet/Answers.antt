@@ -1,27 +1,27 @@
--- Packet changes only the progress of the session, so the C struct with the new progress is that of the returned
--- session.
-use mathlib.Core.Path.{refl, sym, ◌∙◌}
-use Rattle.cstructs.specs.CStructs.{c_session_valid}
-use Rattle.capi.specs.Calls.{c_packet, memory_after_c_packet}
-use Rattle.cstructs.proofs.Laws.{session_told, session_back, packet_result_session}
+use Rattle.std.proofs.Common.{sym, ◌∙◌, length}
+use Rattle.cstructs.proofs.Laws.{session_told, session_back}
+use Rattle.engine.specs.Feeding.{fed}
+use Rattle.packets.specs.Sessions.{rule_of, packet_answer, packet_result}
+use Rattle.cstructs.specs.CStructs.{session_from_c}
+use Rattle.capi.specs.Calls.{c_packet}
+use Rattle.capi.proofs.Calls.{taken_with, refused_with}
 use Rattle.capi.proofs.session_calls.garoalva_packet.Goals as goal
 
-pub packet-p-requires : goal.packet-p-requires
-packet-p-requires c = rw c.session_from_c.ensures (session_told _ (sym c.c_session_valid_given_key.ensures.0 ∙ c.if-c_session_valid_given_key.true) c.c_session_valid_given_key.ensures.1)
+pub packet-requires : goal.packet-requires
+packet-requires c =
+    rw c.from-s.ensures (session_told c.args.session (sym c.if-not-is_valid.ensures.valid) c.is_valid.ensures.eight_held)
 
-pub with_progress-requires : goal.with_progress-requires
-with_progress-requires c = session_back _ (sym c.c_session_valid_given_key.ensures.0 ∙ c.if-c_session_valid_given_key.true)
+pub returns-in-Ok-clause-value : goal.returns-in-Ok-clause-value
+unfolding c_packet packet_result
+returns-in-Ok-clause-value c =
+    let s = session_from_c c.args.session in
+    rw (c.with_progress.ensures, c.in-Ok.ensures.session_after, c.from-s.ensures, sym c.if-not-is_valid.ensures.valid)
+    (taken_with s (fed (rule_of s) s.progress c.args.bytes.now) (packet_answer s (length c.args.memory.now) (length c.args.bytes.now)) c.in-Ok.totals (c.in-Ok.ensures.totals ∙ rw c.from-s.ensures))
 
-pub returns-then-c_session_valid_given_key : goal.returns-then-c_session_valid_given_key
-unfolding c_packet memory_after_c_packet
-returns-then-c_session_valid_given_key c =
-    rw (c.wide.ensures, c.number.ensures, c.with_progress.ensures, c.packet-p.ensures.value, c.session_from_c.ensures, (sym c.c_session_valid_given_key.ensures.0 ∙ c.if-c_session_valid_given_key.true), packet_result_session)
-    (record { value = refl; memory_after = c.packet-p.ensures.memory_after ∙ rw c.session_from_c.ensures })
-
-pub returns-else-c_session_valid_given_key : goal.returns-else-c_session_valid_given_key
-unfolding c_packet memory_after_c_packet
-returns-else-c_session_valid_given_key c = rw (sym c.c_session_valid_given_key.ensures.0 ∙ c.if-c_session_valid_given_key.false) (record { value = refl; memory_after = refl })
-
-pub returns-else-c_key_valid : goal.returns-else-c_key_valid
-unfolding c_session_valid c_packet memory_after_c_packet
-returns-else-c_key_valid c = rw (sym c.c_key_valid.ensures ∙ c.if-c_key_valid.false) (record { value = refl; memory_after = refl })
+pub returns-in-Err-clause-value : goal.returns-in-Err-clause-value
+unfolding c_packet packet_result
+returns-in-Err-clause-value c =
+    let s = session_from_c c.args.session in
+    rw (c.number.ensures, sym c.if-not-is_valid.ensures.valid)
+    (refused_with s (fed (rule_of s) s.progress c.args.bytes.now) c.args.session (packet_answer s (length c.args.memory.now) (length c.args.bytes.now)) c.in-Err.refusal
+    (session_back c.args.session (sym c.if-not-is_valid.ensures.valid)) (c.in-Err.ensures.totals ∙ rw c.from-s.ensures))

@@ -1,5 +1,4 @@
 use mathlib.Core.Path.{◌≡◌}
-use Prim.Native.Nat.{◌-◌, ◌≤◌}
 use lib.ListN.{length, take, drop}
 use Rattle.crc.specs.Division.{followed}
 use Rattle.crc.specs.Inner.Remainders.{Same}
@@ -8,8 +7,4 @@ use Rattle.crc.proofs.window.enter.Given as goal
 
 abbrev pub invariant-loop-i : goal.invariant-loop-i
 invariant-loop-i l =
-    (l.i ≤ length l.s) × (length l.o ≡ length l.initial.o)
-    × Same (window (drop l.i l.o)) (followed 8 (window l.initial.o) (take l.i l.s))
-
-abbrev pub decreases-loop-i : goal.decreases-loop-i
-decreases-loop-i l = length l.s - l.i
+    (length l.o ≡ length l.initial.o) × Same (window (drop l.i l.o)) (followed 8 (window l.initial.o) (take l.i l.s))

@@ -7,6 +7,6 @@ use Rattle.crc.proofs.window.fold_in.Goals as goal
 pub returns : goal.returns
 returns c =
     then c.fold_window.ensures
-    (then (same c.add_overlap.ensures.o_after)
-    (then c.enter_all.ensures.same
-    (same (ap₂ (followed 8) c.enter_first.ensures.o_after (rest_of c.args.s.now 2)))))
+    (then (same c.add_overlap.ensures)
+    (then c.enter_all.ensures
+    (same (ap₂ (followed 8) c.enter_first.ensures (rest_of c.args.s.now 2)))))

@@ -6,8 +6,8 @@ use lib.ListN.{length}
 use Rattle.guard.specs.Inner.Plain.{plain, Partly}
 use Rattle.guard.proofs.checksum.fast_sum.Given as goal
 
-abbrev pub invariant-loop-rest : goal.invariant-loop-rest
-invariant-loop-rest l = (l.all + length l.rest * 1073741824 ≤ length l.part * 1073741824) × Partly (plain false l.part) l.all l.rest
+abbrev pub invariant-loop-eight : goal.invariant-loop-eight
+invariant-loop-eight l = (l.all + length l.rest * 1073741824 ≤ length l.part * 1073741824) × Partly (plain false l.part) l.all l.rest
 
-abbrev pub decreases-loop-rest : goal.decreases-loop-rest
-decreases-loop-rest l = length l.rest
+abbrev pub decreases-loop-eight : goal.decreases-loop-eight
+decreases-loop-eight l = length l.rest

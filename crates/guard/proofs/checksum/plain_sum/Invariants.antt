@@ -1,13 +1,10 @@
--- The loop keeps the invariant that the sum so far plus the plain sum of the bytes left is the result.
+-- The loop keeps the invariant that the sum is the number that it began with and the words so far.
 use mathlib.Core.Path.{◌≡◌}
-use mathlib.Core.Bool.{false}
-use Prim.Native.Nat.{◌+◌, ◌*◌, ◌-◌, ◌≤◌}
-use lib.ListN.{length, drop}
-use Rattle.guard.specs.Inner.Plain.{plain}
+use Prim.Native.Nat.{◌+◌, ◌*◌, ◌≤◌}
+use Rattle.std.proofs.Common.{take}
+use Rattle.std.specs.List.{sum_by}
+use Rattle.guard.specs.Inner.Plain.{word}
 use Rattle.guard.proofs.checksum.plain_sum.Given as goal
 
-abbrev pub invariant-loop-i : goal.invariant-loop-i
-invariant-loop-i l = (l.i ≤ length l.part) × ((l.all ≤ l.from + l.i * 32768) × (l.all + plain false (drop l.i l.part) ≡ l.from + plain false l.part))
-
-abbrev pub decreases-loop-i : goal.decreases-loop-i
-decreases-loop-i l = length l.part - l.i
+abbrev pub invariant-loop-two : goal.invariant-loop-two
+invariant-loop-two l = (l.all ≡ l.from + sum_by word (take l.two-index l.words)) × (l.all ≤ l.from + l.two-index * 65535)

@@ -1,22 +1,21 @@
-use mathlib.Core.Path.{refl}
-use native.Mathlib.Omega.{arith}
-use Rattle.guard.proofs.Laws.{advanced_none, advanced_even, advanced_odd_place, rounds_here}
+use Rattle.std.proofs.Common.{arith}
+use Rattle.guard.specs.Guards.{Bytes}
+use Rattle.guard.proofs.Laws.{advanced_even, advanced_odd_place, rounds_here}
+use Rattle.guard.proofs.checksum.sum.Goals.{then-g+in-Some, else-g}
 use Rattle.guard.proofs.checksum.sum.Goals as goal
 
-pub returns-then-part-eq0 : goal.returns-then-part-eq0
-returns-then-part-eq0 c = advanced_none _ _ c.args.part.now c.if-part-eq0.true
-
-pub returns-else-part-eq0 : goal.returns-else-part-eq0
-returns-else-part-eq0 c =
-    let w = c.wide16 in
-    advanced_odd_place 0 _ _ _ c.args.part.now _ (λ i. (c.type_inv.part i).fits) (omega (arith, w.ensures.0, w.ensures.1))
-    c.if-g.true
-    c.if-part-eq0.false refl
-    (rw (w.ensures.0, c.wide8.ensures.0) at (c.fast_sum.ensures _ c.round.ensures))
-
-pub returns-else-g : goal.returns-else-g
-returns-else-g c =
-    let w = c.wide16-else-g in
-    advanced_even 0 c.args.g.value _ _ _ c.args.part.now (λ i. (c.type_inv.part i).fits)
-    (rounds_here _ (omega (arith, w.ensures.0, w.ensures.1))) c.if-g.false
-    (rw w.ensures.0 at (c.fast_sum-else-g.ensures _ c.round-else-g.ensures))
+pub returns : goal.returns
+returns c =
+    let bytes : Bytes c.args.part.now = λ i. (c.type_inv.part i).fits in
+    let p = c.fast_sum.ensures _ c.round.ensures in
+    elim c.if-g.branch [
+      | then-g+in-Some w ↦
+          let e = w.in-Some.ensures.cases.0 in
+          rw (w.from-is, e)
+          (advanced_odd_place 0 c.args.g.value _ _ _ _ (rw e at bytes) (grind arith) w.if-g.true
+          (rw (w.from-is, w.from.ensures, w.from-then-g.ensures) at p))
+      | else-g w ↦
+          rw w.from-is
+          (advanced_even 0 c.args.g.value _ _ _ c.args.part.now bytes (rounds_here _ (grind arith)) w.if-g.false
+          (rw (w.from-is, w.from-else-g.ensures) at p))
+    ]

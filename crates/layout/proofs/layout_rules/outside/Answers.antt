@@ -1,21 +1,21 @@
-use Rattle.std.proofs.Common.{sym, ◌∙◌, rules, ◌-◌}
-use Rattle.layout.proofs.AnswerLaws.{beyond_pieces, beyond_here, beyond_next, beyond_all}
+-- Of each entry the last repeat ends last.
+use Rattle.std.proofs.Common.{◌∙◌, ◌-◌, sym, arith, ltb, rules, tests}
+use Rattle.std.proofs.lemmas.Iterator.{YieldsList-from_slice}
+use Rattle.std.proofs.lemmas.Iterator.Search.{any_from_yields_List}
+use Rattle.layout.specs.declared.Entry.{Entry}
+use Rattle.layout.specs.Pieces.{piece_end, piece_of, in_use, pieces}
+use Rattle.layout.proofs.PieceLaws.{within_more}
+use Rattle.layout.proofs.AnswerLaws.{beyond_pieces, beyond_within}
 use Rattle.layout.proofs.layout_rules.outside.Goals as goal
 
-pub loop-i-init : goal.loop-i-init
-loop-i-init c = (search rules, beyond_pieces c.args.memory_length c.args.l c.requires.repeat)
+pub returns-clause-applies : goal.returns-clause-applies
+returns-clause-applies c =
+    let l = c.args.l.now in
+    any_from_yields_List (λ (e : Entry). ltb c.args.memory_length (piece_end (piece_of (l.repeat - 1) e))) _ _ _ c.any.ensures.ran
+    (YieldsList-from_slice (in_use l) cc) (λ x b q k. search (rules, tests))
+    ∙ beyond_pieces c.args.memory_length l c.requires.repeat
 
-pub returns-then-ends_beyond : goal.returns-then-ends_beyond
-returns-then-ends_beyond c =
-    let a = c.args in
-    sym (beyond_here a.memory_length (a.l.repeat - 1) a.l.used a.l.entries c.loop-i.i (search rules) (sym c.ends_beyond.ensures ∙ c.if-ends_beyond.true)) ∙ c.loop-i.invariant.1
-
-pub loop-i-preserved : goal.loop-i-preserved
-loop-i-preserved c =
-    let a = c.args in
-    (search rules, sym (beyond_next a.memory_length (a.l.repeat - 1) a.l.used a.l.entries c.loop-i.i (search rules) (sym c.ends_beyond.ensures ∙ c.if-ends_beyond.false)) ∙ c.loop-i.invariant.1)
-
-pub returns : goal.returns
-returns c =
-    let a = c.args in
-    sym (beyond_all a.memory_length (a.l.repeat - 1) a.l.used a.l.entries c.loop-i.i (search rules)) ∙ c.loop-i.invariant.1
+pub returns-clause-within : goal.returns-clause-within
+returns-clause-within c =
+    λ h. within_more c.args.memory_length 18446744073709551615 (pieces c.args.l.now) (omega arith)
+    (beyond_within c.args.memory_length (pieces c.args.l.now) (sym (returns-clause-applies c) ∙ h))

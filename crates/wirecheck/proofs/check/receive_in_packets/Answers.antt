@@ -1,56 +1,50 @@
--- The loop invariant is `Along`: session and memory are those after the bytes that came; each turn makes the rest
--- shorter.
-use mathlib.Core.Path.{◌≡◌, refl, ap, ◌∙◌}
-use Prim.Native.Nat.{ℕ, ◌/◌}
-use native.Mathlib.Nat.{sub-zero}
-use native.Mathlib.Omega.{arith}
-use borrow.Author.Rules.{part_to_end}
-use lib.ListN.{length}
-use Rattle.guard.specs.Guards.{Bytes}
+use Rattle.std.proofs.Common.{◌≡◌, ℕ, refl, ap, ◌∙◌}
 use Rattle.layout.specs.declared.offset.LayoutOffset.{LayoutOffset}
-use Rattle.transfer.specs.Transferring.{memory_after_receive}
-use Rattle.packets.specs.declared.OpenResult.{OpenResult}
-use Rattle.packets.specs.declared.PacketResult.{PacketResult}
-use Rattle.packets.specs.declared.FinishResult.{FinishResult}
-use Rattle.key.specs.declared.Key.{Key}
-use Rattle.wirecheck.specs.Checking.{received}
-use Rattle.wirecheck.proofs.Laws.{key_valid_lem, opened_along, along_session, along_next, along_end, along_memory}
+use Rattle.wirecheck.proofs.Laws.{key_valid_lem, opened_along, opened_never, along_never, along_session, along_next, along_end, along_memory}
 use Rattle.wirecheck.proofs.check.receive_in_packets.Goals as goal
 
-pub open-opened-requires : goal.open-opened-requires
-open-opened-requires c = key_valid_lem _ _ _ c.requires
+pub open-requires : goal.open-requires
+open-requires c = key_valid_lem _ _ _ c.requires
 
-pub loop-rest-init : goal.loop-rest-init
-loop-rest-init c =
+pub returns-in_err-session-clause-value : goal.returns-in_err-session-clause-value
+returns-in_err-session-clause-value c =
     let z : ◌≡◌ {A = LayoutOffset} c.new.result (record { 0 = 0 }) = ap (λ (n : ℕ). record { 0 = n }) c.new.ensures in
-    let a = opened_along _ c.args.memory.now c.args.wire.now c.requires (λ i. (c.type_inv.wire i).fits) _ (rw z at c.open-opened.ensures) in
-    (a.0, a.1, refl)
+    absurd (opened_never _ c.args.memory.now c.args.wire.now c.requires (λ i. (c.type_inv.wire i).fits) _ (rw z at (c.in_err-session.ensures {u = tt})))
 
-pub packet-result-requires : goal.packet-result-requires
-packet-result-requires c =
-    along_session _ c.args.memory.now c.args.wire.now c.loop-rest.invariant.0 (λ i. (c.type_inv.wire i).fits) _ _ _ c.loop-rest.invariant.1
+pub returns-in_err-session-clause-memory_after : goal.returns-in_err-session-clause-memory_after
+returns-in_err-session-clause-memory_after c =
+    let z : ◌≡◌ {A = LayoutOffset} c.new.result (record { 0 = 0 }) = ap (λ (n : ℕ). record { 0 = n }) c.new.ensures in
+    absurd (opened_never _ c.args.memory.now c.args.wire.now c.requires (λ i. (c.type_inv.wire i).fits) _ (rw z at (c.in_err-session.ensures {u = tt})))
 
-pub loop-rest-preserved : goal.loop-rest-preserved
-loop-rest-preserved c =
-    let n = c.min-n in
-    let p = c.packet-result in
-    rw (part_to_end c.loop-rest.rest.now n.result) (
-      c.loop-rest.invariant.0,
-      along_next _ c.args.memory.now c.args.wire.now c.loop-rest.invariant.0 (λ i. (c.type_inv.wire i).fits) _ _ _ c.loop-rest.invariant.1
-          n.result c.loop-rest.invariant.2 _ (ap (λ (q : PacketResult). q.session) (rw (sub-zero n.result) at p.ensures.value)) _ (rw (sub-zero n.result) at p.ensures.memory_after),
-      p.auto.memory ∙ c.loop-rest.invariant.2,
-    )
+pub packet-requires : goal.packet-requires
+packet-requires c =
+    along_session _ c.args.memory.now c.args.wire.now c.loop-packet.invariant.0 (λ i. (c.type_inv.wire i).fits) _ _ _ c.loop-packet.invariant.1
 
-pub finish-finished-requires : goal.finish-finished-requires
-finish-finished-requires c =
-    along_session _ c.args.memory.now c.args.wire.now c.loop-rest.invariant.0 (λ i. (c.type_inv.wire i).fits) _ _ _ c.loop-rest.invariant.1
+pub finish-requires : goal.finish-requires
+finish-requires c =
+    along_session _ c.args.memory.now c.args.wire.now c.loop-packet.invariant.0 (λ i. (c.type_inv.wire i).fits) _ _ _ c.loop-packet.invariant.1
 
-pub returns : goal.returns
-returns c =
-    let k = ap (λ (o : OpenResult). o.session.key) c.open-opened.ensures in
-    let b : Bytes c.args.wire.now = λ i. (c.type_inv.wire i).fits in
-    let z : length c.loop-rest.rest.now ≡ 0 = omega (arith, c.loop-rest-test.false) in record {
-      value = ap (λ (f : FinishResult). f.key) c.finish-finished.ensures
-          ∙ (along_end _ c.args.memory.now c.args.wire.now c.loop-rest.invariant.0 b _ _ _ c.loop-rest.invariant.1 z ∙ ap (λ (x : Key). received x c.args.memory.now c.args.wire.now) k);
-      memory_after = along_memory _ c.args.memory.now c.args.wire.now c.loop-rest.invariant.0 b _ _ _ c.loop-rest.invariant.1 z ∙ ap (λ (x : Key). memory_after_receive x c.args.memory.now c.args.wire.now 0 (length c.args.wire.now / 2)) k;
-    }
+pub loop-packet-init : goal.loop-packet-init
+loop-packet-init c =
+    let z : ◌≡◌ {A = LayoutOffset} c.new.result (record { 0 = 0 }) = ap (λ (n : ℕ). record { 0 = n }) c.new.ensures in
+    rw (c.into_iter-packet-iterator.ensures.into_iter_gives, c.chunks-packet-items.ensures.rest)
+    (c.requires, opened_along _ c.args.memory.now c.args.wire.now c.requires (λ i. (c.type_inv.wire i).fits) _ (rw z at c.in_ok-session.ensures), refl)
+
+pub loop-packet-preserved : goal.loop-packet-preserved
+loop-packet-preserved c = (
+  c.loop-packet.invariant.0,
+  along_next _ c.args.memory.now c.args.wire.now c.loop-packet.invariant.0 (λ i. (c.type_inv.wire i).fits) _ _ _ c.loop-packet.invariant.1 _ _ c.in-Some.ensures.steps.1.0 c.loop-packet.invariant.2 _ c.packet.ensures.session_after _ c.packet.ensures.memory_after,
+  c.packet.auto.memory ∙ c.loop-packet.invariant.2,
+)
+
+pub returns-in_err-packet-clause-value : goal.returns-in_err-packet-clause-value
+returns-in_err-packet-clause-value c = absurd (along_never _ c.args.memory.now c.args.wire.now c.loop-packet.invariant.0 (λ i. (c.type_inv.wire i).fits) _ _ _ c.loop-packet.invariant.1 _ _ c.in-Some.ensures.steps.1.0 c.loop-packet.invariant.2 _ c.in_err-packet.ensures.totals)
+
+pub returns-in_err-packet-clause-memory_after : goal.returns-in_err-packet-clause-memory_after
+returns-in_err-packet-clause-memory_after c = absurd (along_never _ c.args.memory.now c.args.wire.now c.loop-packet.invariant.0 (λ i. (c.type_inv.wire i).fits) _ _ _ c.loop-packet.invariant.1 _ _ c.in-Some.ensures.steps.1.0 c.loop-packet.invariant.2 _ c.in_err-packet.ensures.totals)
+
+pub returns-clause-value : goal.returns-clause-value
+returns-clause-value c = c.finish.ensures ∙ along_end _ c.args.memory.now c.args.wire.now c.loop-packet.invariant.0 (λ i. (c.type_inv.wire i).fits) _ _ _ c.loop-packet.invariant.1 c.in-None.ensures.steps.1.0
+
+pub returns-clause-memory_after : goal.returns-clause-memory_after
+returns-clause-memory_after c = along_memory _ c.args.memory.now c.args.wire.now c.loop-packet.invariant.0 (λ i. (c.type_inv.wire i).fits) _ _ _ c.loop-packet.invariant.1 c.in-None.ensures.steps.1.0

@@ -1,8 +1,0 @@
-use Rattle.std.specs.Prelude.{◌-◌}
-use Rattle.vectors.proofs.moves.fill_pattern.Given as goal
-
-abbrev pub invariant-loop-i : goal.invariant-loop-i
-invariant-loop-i l = Unit {0}
-
-abbrev pub decreases-loop-i : goal.decreases-loop-i
-decreases-loop-i l = 1044 - l.i
