@@ -40,13 +40,16 @@ impl Rule {
     }
 }
 
-// Returns the held bytes with these stored from an index on.
-#[tactic(auto, using(crate::proofs::Held::held_bytes))]
+// Returns the held bytes with these stored from an index on. They are stored one by one: `copy_from_slice` becomes a
+// call of memmove, which the archive for C would then need from outside.
+#[tactic(auto, using(crate::proofs::Held::sets_more, crate::proofs::Held::sets_end))]
 fn hold(held: [u8; FIELD_SIZE], from: usize, part: &[u8]) -> [u8; FIELD_SIZE]
     requires { from + length part.now ≤ field_bytes }
     ensures { result ≡ sets held from part.now }
 {
     let mut all = held;
-    all[from..from + part.len()].copy_from_slice(part);
+    for (i, byte) in part.iter().enumerate() {
+        all[from + i] = *byte;
+    }
     all
 }

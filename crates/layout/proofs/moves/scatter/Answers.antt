@@ -15,7 +15,7 @@ loop-rest-preserved c =
     let inside : c.next_piece_if_spent-c.result.place.0 + c.next_piece_if_spent-c.result.left ≤ length c.loop-rest.memory =
     rw c.loop-rest.invariant.size (c.next_piece_if_spent-c.ensures.stands.inside _ c.requires.placed) in
     rw c.forward-c.ensures
-    (storing_turn _ _ _ _ _ _ _ c.loop-rest.rest.now c.loop-rest.invariant c.next_piece_if_spent-c.ensures _ c.min-n.ensures _ inside c.copy_from_slice.ensures.after (search rules))
+    (storing_turn _ _ _ _ _ _ _ c.loop-rest.rest.now c.loop-rest.invariant c.next_piece_if_spent-c.ensures _ c.min-n.ensures _ inside c.copy.ensures (search rules))
 
 pub returns : goal.returns
 returns c = storing_end _ _ _ _ _ _ c.loop-rest.rest.now (grind (arith, nat_tests, c.is_empty.ensures, c.loop-rest-test.false)) c.loop-rest.invariant
