@@ -1,7 +1,8 @@
 # make            builds build/libgaroalva.a and build/libgaroalva.so; it proves the crate capi_c, for which rt must be
 #                 on the path
-# make test       tests the header, both libraries as installed, the C API, that a library with other structs does not
-#                 link, the guard of a block by itself, the Rust crate, the model, and the library against the model
+# make test       tests the header, which names the proved part needs from outside, both libraries as installed, the C
+#                 API, that a library with other structs does not link, the guard of a block by itself, the Rust crate,
+#                 the model, and the library against the model
 # make bench      runs bench/run; QUICK=--quick for a short run
 # make install    PREFIX=/usr/local DESTDIR=
 # make clean
@@ -32,7 +33,7 @@ WITH_ISAL := $$(pkg-config --exists libisal && echo -DHAVE_ISAL $$(pkg-config --
 PROVED := $(wildcard crates.txt) \
     $(shell test -d crates && find crates -name out -prune -o \( -name '*.rt' -o -name '*.antt' \) -print)
 
-.PHONY: all test test-header test-c test-versions test-guard test-rust test-reference bench install clean
+.PHONY: all test test-header test-needs test-c test-versions test-guard test-rust test-reference bench install clean
 .DELETE_ON_ERROR:
 
 all: build/libgaroalva.a build/libgaroalva.so
@@ -77,7 +78,7 @@ build/libgaroalva.so: build/$(SHARED)
 	ln -sf $(SHARED) build/$(SONAME)
 	ln -sf $(SONAME) $@
 
-test: test-header test-c test-versions test-guard test-rust test-reference
+test: test-header test-needs test-c test-versions test-guard test-rust test-reference
 	tests/run
 
 # A field that is too narrow can leave all sizes and offsets as asserted, but then padding follows it: -Wpadded.
@@ -85,6 +86,11 @@ test-header:
 	echo '#include "garoalva.h"' | $(CC) -x c -std=c11 $(WARNINGS) -Wpadded -Iinclude -fsyntax-only -
 	echo '#include "garoalva.h"' | $(CXX) -x c++ -std=c++11 $(WARNINGS) -Wpadded -Iinclude -fsyntax-only -
 	CC='$(CC)' CXX='$(CXX)' tests/nodiscard
+
+# The proved part needs these two names from outside, and no other: docs/LINKING.md says so.
+test-needs: build/libcapi.a
+	$(NM) --undefined-only $< | sed -n 's/^ *[Uwv] //p' | sort -u > build/needs.txt
+	printf 'memcpy\nmemset\n' | diff - build/needs.txt
 
 # The example and the tests of the C API, with each library, linked as docs/LINKING.md says.
 test-c: all
