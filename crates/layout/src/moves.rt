@@ -7,7 +7,7 @@ use crate::Layout;
 use crate::cursor::{Cursor, forward, next_piece_if_spent};
 
 // Copies all bytes to a slice of the same length. `copy_from_slice` becomes a call of memmove, which the archive for C
-// would then need from outside, and with it an unsigned transfer of 8 MiB in one piece took 1.3 times as long.
+// would then need from outside. With it an unsigned transfer of 8 MiB in one piece took up to a third longer.
 fn copy(to: &mut [u8], from: &[u8])
     requires { length to.old ≡ length from.now }
     ensures { to.new ≡ from.now }
